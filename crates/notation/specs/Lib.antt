@@ -1,0 +1,5 @@
+pub mod Faults
+pub mod Lists
+pub mod Numbers
+pub mod Printing
+pub mod Reading
