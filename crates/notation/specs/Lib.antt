@@ -1,4 +1,6 @@
 pub mod Faults
+pub mod Fits
+pub mod Laws
 pub mod Lists
 pub mod Numbers
 pub mod Printing

@@ -21,7 +21,19 @@ abbrev pub print-value : Value → List ℕ
 print-value (value.Constant k) = 99 ∷ decimal k
 print-value (value.Unknown k) = 110 ∷ decimal k
 
--- the terms, with commas between them
+-- the terms, with commas between them, where pr prints a term
+abbrev pub print-terms : {X : Type 0} → (X → List ℕ) → Terms X → List ℕ
+print-terms pr (One a) = pr a
+print-terms pr (Two a b) = pr a ++ (44 ∷ pr b)
+print-terms pr (Three a b d) = pr a ++ (44 ∷ (pr b ++ (44 ∷ pr d)))
+print-terms pr (Four a b d e) = pr a ++ (44 ∷ (pr b ++ (44 ∷ (pr d ++ (44 ∷ pr e)))))
+
+-- the predicate, and the terms in brackets
+abbrev pub print-atom : {X : Type 0} → (X → List ℕ) → Atom X → List ℕ
+print-atom pr a = 112 ∷ (decimal (a .predicate) ++ (40 ∷ (print-terms pr (a .terms) ++ (41 ∷ []))))
+
+-- ---------------------------------------------------------------- the same, where a term may have no known text
+
 abbrev pub show-terms : {X : Type 0} → (X → Option (List ℕ)) → Terms X → Option (List ℕ)
 show-terms show (One a) = show a
 show-terms show (Two a b) = then (show a) (then (Some (44 ∷ [])) (show b))
@@ -29,4 +41,4 @@ show-terms show (Three a b d) = then (show a) (then (Some (44 ∷ [])) (then (sh
 show-terms show (Four a b d e) = then (show a) (then (Some (44 ∷ [])) (then (show b) (then (Some (44 ∷ [])) (then (show d) (then (Some (44 ∷ [])) (show e))))))
 
 abbrev pub show-atom : {X : Type 0} → (X → Option (List ℕ)) → Atom X → Option (List ℕ)
-show-atom show a = then (Some (112 ∷ decimal (a .predicate))) (then (Some (40 ∷ [])) (then (show-terms show (a .terms)) (Some (41 ∷ []))))
+show-atom show a = then (Some (112 ∷ [])) (then (Some (decimal (a .predicate))) (then (Some (40 ∷ [])) (then (show-terms show (a .terms)) (Some (41 ∷ [])))))

@@ -2,6 +2,7 @@
 pub mod failures;
 pub mod faults;
 pub mod grades;
+pub mod laws;
 pub mod lists;
 pub mod numbers;
 pub mod printing;

@@ -41,3 +41,13 @@ pub impl<T: fmt::Display> fmt::Display for Terms<T> as TermsDisplay {
         }
     }
 }
+
+pub impl<T: fmt::Display> fmt::Display for Atom<T> as AtomDisplay {
+    ghost shown = { show-atom (T·Display .shown) };
+
+    fn fmt<W: fmt::Write>(&self, f: &mut fmt::Formatter<W>) -> fmt::Result {
+        let p = self.predicate;
+        let terms = &self.terms;
+        write!(f, "p{p}({terms})")
+    }
+}
