@@ -1,55 +1,105 @@
 -- A text cut at its separators, one after another.
 use mathlib.Core.Path.{_≡_, refl, sym, ap, _∙_}
-use mathlib.Core.Bool.{true, false}
+use mathlib.Core.Bool.{Bool, true, false, cond}
 use mathlib.Core.List.{List, [], _∷_, _++_, append-nil, append-assoc}
-use Prim.Native.Nat.{ℕ, _+_, _-_, _<_, _≤_}
+use Prim.Native.Nat.{ℕ, suc, _+_, _-_, _<_, _≤_}
 use native.Mathlib.Omega.{arith}
-use lib.ListN.{length, getD, take, drop, length-drop}
-use Rattle.std.proofs.shelf.Lists.{drop-more, take-more, take-rest, take-all, drop-all}
-use Rattle.std.proofs.shelf.Tests.{ne-eqb, eq-eqb}
+use lib.Dec.{eqb}
+use lib.ListN.{length, getD, take, drop}
+use Rattle.std.proofs.shelf.Lists.{drop-more, take-more, take-rest, drop-all}
+use Rattle.std.proofs.shelf.Tests.{ne-eqb, eq-eqb, cond-true, cond-false}
+use Rattle.std.specs.Options.{mapped}
+use Rattle.std.specs.declared.option.Option.{Option}
+use Rattle.std.specs.declared.option.Option.the-variants.{Some, None}
 use Rattle.std.specs.declared.result.Result.{Result}
 use Rattle.std.specs.declared.result.Result.the-variants.{Ok, Err}
 use Rattle.notation.specs.declared.faults.LineFault.{LineFault}
 use Rattle.notation.specs.Reading.{carry}
-use Rattle.notation.specs.Lists.{onto-pieces, pieces, every, read-list}
+use Rattle.notation.specs.Lists.{cut-at, onto-pieces, pieces, every, read-list}
+
+-- a text before what is cut
+abbrev pub before : List ℕ → Option (List ℕ × List ℕ) → Option (List ℕ × List ℕ)
+before l o = mapped (λ p. (l ++ p .0, p .1)) o
+
+before-none : (o : Option (List ℕ × List ℕ)) → o ≡ before [] o
+before-none None = refl
+before-none (Some p) = refl
+
+before-more : (l : List ℕ) (b : ℕ) (o : Option (List ℕ × List ℕ)) → before l (mapped (λ p. (b ∷ p .0, p .1)) o) ≡ before (l ++ b ∷ []) o
+before-more l b None = refl
+before-more l b (Some p) = ap (λ x. Some (x, p .1)) (sym (append-assoc l (b ∷ []) (p .0)))
 
 -- the first i bytes of s have no separator
 abbrev pub Passed : ℕ → ℕ → List ℕ → Type 0
-Passed by i s = pieces by s ≡ (take i s ++ pieces by (drop i s) .0, pieces by (drop i s) .1)
+Passed by i s = cut-at by s ≡ before (take i s) (cut-at by (drop i s))
+
+pub passed-none : (by : ℕ) (s : List ℕ) → Passed by 0 s
+passed-none by s = before-none (cut-at by s)
 
 pub passed-more : (by i : ℕ) (s : List ℕ) → i < length s → (getD s i 0 ≡ by → ⊥) → Passed by i s → Passed by (i + 1) s
 passed-more by i s h ne p =
     let b = getD s i 0 in
-    let more = pieces by (drop (i + 1) s) in
-    let q : pieces by (drop i s) ≡ (b ∷ more .0, more .1) = ap (pieces by) (drop-more s i 0 h) ∙ ap (λ t. onto-pieces t b more) (ne-eqb b by ne) in
+    let rest = cut-at by (drop (i + 1) s) in
     p
-    ∙ ap (λ r. (take i s ++ r .0, r .1)) q
-    ∙ ap (λ x. (x, more .1)) (sym (append-assoc (take i s) (b ∷ []) (more .0)) ∙ ap (λ x. x ++ more .0) (sym (take-more s i 0 h)))
+    ∙ ap (λ l. before (take i s) (cut-at by l)) (drop-more s i 0 h)
+    ∙ ap (before (take i s)) (cond-false _ (Some ([], drop (i + 1) s)) _ (ne-eqb b by ne))
+    ∙ before-more (take i s) b rest
+    ∙ ap (λ l. before l rest) (sym (take-more s i 0 h))
 
-pub passed-cut : (by i : ℕ) (s : List ℕ) → i < length s → getD s i 0 ≡ by → Passed by i s → pieces by s ≡ (take i s, pieces by (drop (i + 1) s) .0 ∷ pieces by (drop (i + 1) s) .1)
-passed-cut by i s h e p =
+pub passed-cut : (by i j : ℕ) (s : List ℕ) → j ≡ i → i < length s → getD s i 0 ≡ by → Passed by i s → Some (take j s, take (length s - (i + 1)) (drop (i + 1) s)) ≡ cut-at by s
+passed-cut by i j s n h e p =
     let b = getD s i 0 in
-    let more = pieces by (drop (i + 1) s) in
-    let q : pieces by (drop i s) ≡ ([], more .0 ∷ more .1) = ap (pieces by) (drop-more s i 0 h) ∙ ap (λ t. onto-pieces t b more) (eq-eqb b by e) in
-    p ∙ ap (λ r. (take i s ++ r .0, r .1)) q ∙ ap (λ x. (x, more .0 ∷ more .1)) (append-nil (take i s))
+    sym (
+      p
+      ∙ ap (λ l. before (take i s) (cut-at by l)) (drop-more s i 0 h)
+      ∙ ap (before (take i s)) (cond-true _ _ (mapped (λ p. (b ∷ p .0, p .1)) (cut-at by (drop (i + 1) s))) (eq-eqb b by e))
+      ∙ ap (λ l. Some (l, drop (i + 1) s)) (append-nil (take i s) ∙ ap (λ k. take k s) (sym n))
+      ∙ ap (λ r. Some (take j s, r)) (sym (take-rest s (i + 1))))
 
--- the same of the two slices
-pub passed-slices : (by i j : ℕ) (s : List ℕ) → j ≡ i → i < length s → getD s i 0 ≡ by → Passed by i s → (pieces by s ≡ (take j s, pieces by (take (length s - (i + 1)) (drop (i + 1) s)) .0 ∷ pieces by (take (length s - (i + 1)) (drop (i + 1) s)) .1)) × (length (take (length s - (i + 1)) (drop (i + 1) s)) < length s)
-passed-slices by i j s n h e p =
-    let rest = take-rest s (i + 1) in
-    let less = length-drop (i + 1) s in
-    (
-      passed-cut by i s h e p
-      ∙ ap (λ k. (take k s, pieces by (drop (i + 1) s) .0 ∷ pieces by (drop (i + 1) s) .1)) (sym n)
-      ∙ ap (λ r. (take j s, pieces by r .0 ∷ pieces by r .1)) (sym rest),
-      omega (arith, ap length rest),
-    )
+pub passed-all : (by i : ℕ) (s : List ℕ) → length s ≤ i → Passed by i s → None ≡ cut-at by s
+passed-all by i s h p = sym (p ∙ ap (λ l. before (take i s) (cut-at by l)) (drop-all i s h))
 
-pub passed-all : (by i : ℕ) (s : List ℕ) → length s ≤ i → Passed by i s → pieces by s ≡ (s, [])
-passed-all by i s h p =
-    p
-    ∙ ap (λ l. (take i s ++ pieces by l .0, pieces by l .1)) (drop-all i s h)
-    ∙ ap (λ x. (x, [])) (append-nil (take i s) ∙ take-all i s h)
+-- ---------------------------------------------------------------- what is cut, and the pieces
+
+-- what the cut off text and the rest give as pieces
+abbrev pieces-by : ℕ → List ℕ → Option (List ℕ × List ℕ) → List ℕ × List (List ℕ)
+pieces-by by s None = (s, [])
+pieces-by by s (Some p) = (p .0, pieces by (p .1) .0 ∷ pieces by (p .1) .1)
+
+onto : (by b : ℕ) (s : List ℕ) (o : Option (List ℕ × List ℕ)) → (b ∷ pieces-by by s o .0, pieces-by by s o .1) ≡ pieces-by by (b ∷ s) (mapped (λ p. (b ∷ p .0, p .1)) o)
+onto by b s None = refl
+onto by b s (Some p) = refl
+
+by-byte : (by b : ℕ) (s : List ℕ) (t : Bool) → pieces by s ≡ pieces-by by s (cut-at by s) → onto-pieces t b (pieces by s) ≡ pieces-by by (b ∷ s) (cond t (Some ([], s)) (mapped (λ p. (b ∷ p .0, p .1)) (cut-at by s)))
+by-byte by b s true e = refl
+by-byte by b s false e = ap (onto-pieces false b) e ∙ onto by b s (cut-at by s)
+
+pieces-cut : (by : ℕ) (s : List ℕ) → pieces by s ≡ pieces-by by s (cut-at by s)
+pieces-cut by [] = refl
+pieces-cut by (b ∷ s) = by-byte by b s (eqb b by) (pieces-cut by s)
+
+pub pieces-more : (by : ℕ) (s l rest : List ℕ) → Some (l, rest) ≡ cut-at by s → pieces by s ≡ (l, pieces by rest .0 ∷ pieces by rest .1)
+pieces-more by s l rest e = pieces-cut by s ∙ ap (pieces-by by s) (sym e)
+
+pub pieces-end : (by : ℕ) (s : List ℕ) → None ≡ cut-at by s → pieces by s ≡ (s, [])
+pieces-end by s e = pieces-cut by s ∙ ap (pieces-by by s) (sym e)
+
+-- the rest is shorter
+abbrev left : ℕ → Option (List ℕ × List ℕ) → ℕ
+left n None = n
+left n (Some p) = suc (length (p .1))
+
+cut-left : (by : ℕ) (s : List ℕ) → left (length s) (cut-at by s) ≤ length s
+cut-left by [] = omega arith
+cut-left by (b ∷ s) = by-test (eqb b by) (cut-at by s) (cut-left by s)
+  where
+    by-test : (t : Bool) (o : Option (List ℕ × List ℕ)) → left (length s) o ≤ length s → left (suc (length s)) (cond t (Some ([], s)) (mapped (λ p. (b ∷ p .0, p .1)) o)) ≤ suc (length s)
+    by-test true o h = omega arith
+    by-test false None h = omega arith
+    by-test false (Some p) h = omega arith
+
+pub cut-shorter : (by : ℕ) (s l rest : List ℕ) → Some (l, rest) ≡ cut-at by s → length rest < length s
+cut-shorter by s l rest e = let n = ap (left (length s)) e in let m = cut-left by s in omega arith
 
 -- ---------------------------------------------------------------- the items of a list
 
@@ -67,4 +117,14 @@ module _ {X : Type 0} (f : List ℕ → Result X LineFault) (by : ℕ) where
   item-read s piece rest ys y cut e =
       after-more ys y (read-list f by rest)
       ∙ ap (λ o. after-items ys (carry (λ e. e) o (λ z. carry (λ e. e) (read-list f by rest) (λ zs. Ok (z ∷ zs))))) e
+      ∙ ap (λ p. after-items ys (every f (p .0 ∷ p .1))) (sym cut)
+
+  pub item-fault : (s piece : List ℕ) (more : List (List ℕ)) (ys : List X) (e : LineFault) → pieces by s ≡ (piece, more) → Err e ≡ f piece → Err e ≡ after-items ys (read-list f by s)
+  item-fault s piece more ys e cut is =
+      ap (λ o. after-items ys (carry (λ e. e) o (λ z. carry (λ e. e) (every f more) (λ zs. Ok (z ∷ zs))))) is
+      ∙ ap (λ p. after-items ys (every f (p .0 ∷ p .1))) (sym cut)
+
+  pub last-read : (s : List ℕ) (ys : List X) (y : X) → pieces by s ≡ (s, []) → Ok y ≡ f s → Ok (ys ++ y ∷ []) ≡ after-items ys (read-list f by s)
+  last-read s ys y cut e =
+      ap (λ o. after-items ys (carry (λ e. e) o (λ z. Ok (z ∷ [])))) e
       ∙ ap (λ p. after-items ys (every f (p .0 ∷ p .1))) (sym cut)

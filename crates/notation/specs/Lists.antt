@@ -2,10 +2,10 @@
 use mathlib.Core.Bool.{Bool, true, false, cond, _&&_}
 use mathlib.Core.List.{List, [], _∷_, _++_}
 use mathlib.Core.Path.{_≡_}
-use Prim.Native.Nat.{ℕ, _<_}
+use Prim.Native.Nat.{ℕ}
 use denote.Ref.{RefT}
 use lib.Dec.{eqb, leb}
-use lib.ListN.{length}
+use Rattle.std.specs.Options.{mapped}
 use Rattle.std.specs.declared.option.Option.{Option}
 use Rattle.std.specs.declared.option.Option.the-variants.{Some, None}
 use Rattle.std.specs.declared.result.Result.{Result}
@@ -25,6 +25,15 @@ Unless-memory see (Ok x) o = o ≡ Ok (see x)
 Unless-memory see (Err (Fault f)) o = o ≡ Err f
 Unless-memory see (Err Memory) o = Unit {0}
 
+-- the text before the first separator, and the text after it
+abbrev pub cut-at : ℕ → List ℕ → Option (List ℕ × List ℕ)
+cut-at by [] = None
+cut-at by (b ∷ s) = cond (eqb b by) (Some ([], s)) (mapped (λ p. (b ∷ p .0, p .1)) (cut-at by s))
+
+abbrev pub both-seen : Option (RefT (List ℕ) × RefT (List ℕ)) → Option (List ℕ × List ℕ)
+both-seen None = None
+both-seen (Some p) = Some (p .0 .now, p .1 .now)
+
 -- a byte before the first of the pieces, or a separator, which begins a new piece
 abbrev pub onto-pieces : Bool → ℕ → List ℕ × List (List ℕ) → List ℕ × List (List ℕ)
 onto-pieces true b ps = ([], ps .0 ∷ ps .1)
@@ -34,11 +43,6 @@ onto-pieces false b ps = (b ∷ ps .0, ps .1)
 abbrev pub pieces : ℕ → List ℕ → List ℕ × List (List ℕ)
 pieces by [] = ([], [])
 pieces by (b ∷ s) = onto-pieces (eqb b by) b (pieces by s)
-
--- a text cut at its first separator
-abbrev pub Cuts : ℕ → List ℕ → Option (RefT (List ℕ) × RefT (List ℕ)) → Type 0
-Cuts by s None = pieces by s ≡ (s, [])
-Cuts by s (Some p) = (pieces by s ≡ (p .0 .now, pieces by (p .1 .now) .0 ∷ pieces by (p .1 .now) .1)) × (length (p .1 .now) < length s)
 
 -- each item as it is read, or the fault of the first that has one
 abbrev pub every : {X Y E : Type 0} → (X → Result Y E) → List X → Result (List Y) E

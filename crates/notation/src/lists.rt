@@ -6,7 +6,7 @@ ghost use Rattle.std.specs.Of.Vec.{vec-items};
 ghost use Rattle.std.specs.declared.result.Result.{Result};
 ghost use Rattle.notation.specs.declared.faults.LineFault.{LineFault};
 ghost use Rattle.notation.specs.Reading.{term-of};
-ghost use Rattle.notation.specs.Lists.{Unless-memory, Cuts, read-list, whole-atom, whole-number};
+ghost use Rattle.notation.specs.Lists.{Unless-memory, both-seen, cut-at, read-list, whole-atom, whole-number};
 use crate::failures::Failure;
 use crate::failures::FailureFromLine;
 use crate::failures::FailureFromRefused;
@@ -22,7 +22,7 @@ use std::alloc::Global;
 
 // The text before the first separator, and the text after it.
 pub fn cut(separator: u8, s: &[u8]) -> Option<(&[u8], &[u8])>
-    ensures { λ r. ⌜ Cuts separator (now (s .entry)) r ⌝ }
+    ensures { λ r. ⌜ both-seen r ≡ cut-at separator (now (s .entry)) ⌝ }
 {
     for (i, b) in s.iter().enumerate() {
         if *b == separator {
