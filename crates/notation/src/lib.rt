@@ -3,6 +3,7 @@ pub mod failures;
 pub mod faults;
 pub mod grades;
 pub mod laws;
+pub mod lines;
 pub mod lists;
 pub mod numbers;
 pub mod printing;
