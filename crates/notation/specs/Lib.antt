@@ -3,6 +3,7 @@ pub mod Fits
 pub mod Laws
 pub mod Lines
 pub mod Lists
+pub mod Logic
 pub mod Numbers
 pub mod Printing
 pub mod Reading

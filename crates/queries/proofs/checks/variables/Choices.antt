@@ -1,0 +1,7 @@
+use mathlib.Core.Path.{_≡_}
+use lib.ListN.{drop}
+use Rattle.queries.specs.Checks.{numbered, all-terms}
+use Rattle.queries.proofs.checks.variables.Given as given
+
+abbrev pub Inv-loop-a : given.InvT-loop-a
+Inv-loop-a l = numbered (l .n) (all-terms (drop (l .a-index) (l .atoms))) ≡ numbered 0 (all-terms (l .atoms))

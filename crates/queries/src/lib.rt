@@ -1,0 +1,3 @@
+// Conjunctive queries.
+mod checks;
+pub mod query;

@@ -1,0 +1,44 @@
+// Making a query, and what it holds.
+ghost use mathlib.Core.Path.{_≡_};
+ghost use mathlib.Core.List.{_++_};
+ghost use Prim.Native.Nat.{_≤_};
+ghost use lib.ListN.{length, take};
+ghost use Rattle.std.specs.Of.String.{string-bytes};
+ghost use Rattle.std.specs.Vec.{made};
+ghost use Rattle.queries.specs.Checks.{make-query};
+ghost use Rattle.queries.specs.Printing.{print-atoms};
+ghost use Rattle.queries.specs.Queries.{atoms-of, query-seen};
+use super::Query;
+use crate::checks::check;
+use notation::faults::LineFault;
+use notation::terms::Atom;
+use notation::terms::Term;
+use notation::terms::Terms;
+
+// The atoms at the front of an array.
+fn fill(atoms: &[Atom<Term>]) -> [Atom<Term>; 16]
+    requires { ⌜ length (now atoms) ≤ 16 ⌝ }
+    ensures { λ r. ⌜ take (length (now (atoms .entry))) r ≡ now (atoms .entry) ⌝ }
+{
+    let mut held = [Atom { predicate: 0, terms: Terms::One(Term::Constant(0)) }; 16];
+    for i in 0..atoms.len() {
+        held[i] = atoms[i];
+    }
+    held
+}
+
+impl Query {
+    // The query of these atoms, where `arity` lists the numbers of terms of p0, p1 and so on.
+    pub fn new(arity: &[u8], atoms: &[Atom<Term>]) -> Result<Query, LineFault>
+        ensures { λ r. ⌜ query-seen r ≡ make-query (now (arity .entry)) (now (atoms .entry)) ⌝ }
+    {
+        check(arity, atoms)?;
+        Ok(Query { atoms: fill(atoms), count: atoms.len() })
+    }
+
+    pub fn atoms(&self) -> &[Atom<Term>]
+        ensures { λ r. ⌜ now r ≡ atoms-of (now (self .entry)) ⌝ }
+    {
+        &self.atoms[0..self.count]
+    }
+}
