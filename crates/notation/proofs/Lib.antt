@@ -1,3 +1,4 @@
 pub mod Back
 pub mod Fronts
 pub mod Pieces
+pub mod Shown

@@ -1,3 +1,4 @@
 pub mod Loops
+pub mod Printed
 pub mod Same
 pub mod Valid

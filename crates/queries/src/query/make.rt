@@ -5,15 +5,21 @@ ghost use Prim.Native.Nat.{_≤_};
 ghost use lib.ListN.{length, take};
 ghost use Rattle.std.specs.Of.String.{string-bytes};
 ghost use Rattle.std.specs.Vec.{made};
+ghost use Rattle.notation.specs.Printing.{print-term, print-atom};
 ghost use Rattle.queries.specs.Checks.{make-query};
 ghost use Rattle.queries.specs.Printing.{print-atoms};
 ghost use Rattle.queries.specs.Queries.{atoms-of, query-seen};
 use super::Query;
 use crate::checks::check;
 use notation::faults::LineFault;
+use notation::printing::AtomDisplay;
+use notation::printing::TermDisplay;
+use notation::printing::TermsDisplay;
 use notation::terms::Atom;
 use notation::terms::Term;
 use notation::terms::Terms;
+use std::fmt;
+use std::fmt::Write;
 
 // The atoms at the front of an array.
 fn fill(atoms: &[Atom<Term>]) -> [Atom<Term>; 16]
@@ -41,4 +47,32 @@ impl Query {
     {
         &self.atoms[0..self.count]
     }
+
+    // Prints the query after what `out` holds: its atoms, with ";" between them.
+    pub fn print(&self, out: &mut String) -> Result<(), fmt::Error>
+        ensures { λ r. ⌜ made r (λ _. string-bytes (now (out .exit)) ≡ string-bytes (now (out .entry)) ++ print-atoms (atoms-of (now (self .entry)))) ⌝ }
+    {
+        print_atoms(self.atoms(), out)
+    }
+}
+
+fn print_atom(a: &Atom<Term>, out: &mut String) -> Result<(), fmt::Error>
+    ensures { λ r. ⌜ made r (λ _. string-bytes (now (out .exit)) ≡ string-bytes (now (out .entry)) ++ print-atom print-term (now (a .entry))) ⌝ }
+{
+    write!(out, "{a}")?;
+    Ok(())
+}
+
+fn print_atoms(atoms: &[Atom<Term>], out: &mut String) -> Result<(), fmt::Error>
+    ensures { λ r. ⌜ made r (λ _. string-bytes (now (out .exit)) ≡ string-bytes (now (out .entry)) ++ print-atoms (now (atoms .entry))) ⌝ }
+{
+    let [first, rest @ ..] = atoms else {
+        return Ok(());
+    };
+    print_atom(first, out)?;
+    for a in rest {
+        write!(out, ";")?;
+        print_atom(a, out)?;
+    }
+    Ok(())
 }
