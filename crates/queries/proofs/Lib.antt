@@ -1,3 +1,4 @@
+pub mod Back
 pub mod Loops
 pub mod Printed
 pub mod Same

@@ -1,3 +1,4 @@
 // Conjunctive queries.
 mod checks;
+pub mod laws;
 pub mod query;
