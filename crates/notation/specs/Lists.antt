@@ -1,7 +1,6 @@
 -- How lists are read: a text cut at each separator, and each piece read whole.
 use mathlib.Core.Bool.{Bool, true, false, cond, _&&_}
 use mathlib.Core.List.{List, [], _∷_, _++_}
-use mathlib.Core.Path.{_≡_}
 use Prim.Native.Nat.{ℕ}
 use denote.Ref.{RefT}
 use lib.Dec.{eqb, leb}
@@ -14,16 +13,8 @@ use Rattle.notation.specs.declared.faults.LineFault.{LineFault}
 use Rattle.notation.specs.declared.faults.LineFault.the-variants.{InAtom, Unreadable}
 use Rattle.notation.specs.declared.faults.TermFault.{TermFault}
 use Rattle.notation.specs.declared.terms.Atom.{Atom}
-use Rattle.notation.specs.declared.failures.Failure.{Failure}
-use Rattle.notation.specs.declared.failures.Failure.the-variants.{Memory, Fault}
 use Rattle.notation.specs.Numbers.{read-number}
 use Rattle.notation.specs.Reading.{carry, read-atom}
-
--- what was answered is what the definition says, unless memory was wanting
-abbrev pub Unless-memory : {X Y F : Type 0} → (X → Y) → Result X (Failure F) → Result Y F → Type 0
-Unless-memory see (Ok x) o = o ≡ Ok (see x)
-Unless-memory see (Err (Fault f)) o = o ≡ Err f
-Unless-memory see (Err Memory) o = Unit {0}
 
 -- the text before the first separator, and the text after it
 abbrev pub cut-at : ℕ → List ℕ → Option (List ℕ × List ℕ)
