@@ -1,0 +1,4 @@
+// A folder's text: its lines, and what is printed for it.
+pub mod contents;
+pub mod parts;
+pub mod reader;
