@@ -1,2 +1,3 @@
 pub mod Lines
+pub mod Printed
 pub mod Taken

@@ -1,2 +1,3 @@
 pub mod Contents
 pub mod Folders
+pub mod Printing
