@@ -1,3 +1,4 @@
+pub mod Buffers
 pub mod Contents
 pub mod Folders
 pub mod Printing

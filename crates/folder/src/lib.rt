@@ -1,4 +1,5 @@
 // A folder's text: its lines, and what is printed for it.
+pub mod buffer;
 pub mod contents;
 pub mod parts;
 pub mod printing;
