@@ -1,0 +1,4 @@
+pub mod Holding
+pub mod Fitting
+pub mod Bindings
+pub mod Routes

@@ -1,0 +1,4 @@
+pub mod Few
+pub mod Reading
+pub mod Rows
+pub mod Text
