@@ -3,3 +3,4 @@ pub mod Narrowing
 pub mod Places
 pub mod Extending
 pub mod Starting
+pub mod Asking

@@ -16,6 +16,7 @@ use sources::Source;
 
 pub mod guide;
 pub mod matching;
+pub mod question;
 
 // Whether the atoms hold with what `b` has given: they are tried in their order, and for each the places along
 // the route that `s` has for it, in ascending order.
