@@ -2,3 +2,4 @@ pub mod Buffers
 pub mod Contents
 pub mod Folders
 pub mod Printing
+pub mod Printouts

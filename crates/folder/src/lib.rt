@@ -3,4 +3,5 @@ pub mod buffer;
 pub mod contents;
 pub mod parts;
 pub mod printing;
+pub mod printout;
 pub mod reader;
