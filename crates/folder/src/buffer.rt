@@ -12,7 +12,7 @@ pub enum Unprinted {
 }
 
 // Copies `text` to the start of `out`, and leaves the rest; where it does not fit, nothing is written.
-pub fn copy_in(text: &[u8], out: &mut [u8]) -> Result<usize, Unprinted>
+pub(crate) fn copy_in(text: &[u8], out: &mut [u8]) -> Result<usize, Unprinted>
     ensures { λ r. ⌜ Copied (now (text .entry)) (now (out .entry)) (now (out .exit)) r ⌝ }
 {
     let n = text.len();

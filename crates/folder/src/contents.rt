@@ -25,7 +25,7 @@ pub enum Content {
 }
 
 impl Content {
-    pub fn key(&self) -> Key
+    pub(crate) fn key(&self) -> Key
         ensures { λ r. ⌜ r ≡ entry-key (content-seen (now (self .entry))) ⌝ }
     {
         match self {
@@ -37,7 +37,7 @@ impl Content {
 }
 
 // What a line says, which is written without its end.
-pub fn read_content(heap: Global, line: &[u8]) -> Result<Content, Failure<LineFault>>
+pub(crate) fn read_content(heap: Global, line: &[u8]) -> Result<Content, Failure<LineFault>>
     ensures { λ r. ⌜ Unless-memory content-seen r (read-content (now (line .entry))) ⌝ }
 {
     match keyed(line)? {

@@ -1,7 +1,7 @@
 // A folder's text: its lines, and what is printed for it.
 pub mod buffer;
-pub mod contents;
+mod contents;
 pub mod parts;
-pub mod printing;
+mod printing;
 pub mod printout;
 pub mod reader;

@@ -33,7 +33,7 @@ fn put_answer(answer: Option<usize>, out: &mut String) -> Result<(), fmt::Error>
 }
 
 // The standing queries, that the rules are kept, and the two answers.
-pub fn put_answers(queries: &[Query], standing: Option<usize>, opening: Option<usize>, out: &mut String) -> Result<(), fmt::Error>
+pub(crate) fn put_answers(queries: &[Query], standing: Option<usize>, opening: Option<usize>, out: &mut String) -> Result<(), fmt::Error>
     ensures { λ r. ⌜ made r (λ _. string-bytes (now (out .exit)) ≡ string-bytes (now (out .entry)) ++ print-answers (map atoms-of (now (queries .entry))) standing opening) ⌝ }
 {
     print_queries(queries, out)?;
@@ -46,7 +46,7 @@ pub fn put_answers(queries: &[Query], standing: Option<usize>, opening: Option<u
 }
 
 // The number of a reading fault, and its line.
-pub fn put_fault(fault: Fault, out: &mut String) -> Result<(), fmt::Error>
+pub(crate) fn put_fault(fault: Fault, out: &mut String) -> Result<(), fmt::Error>
     ensures { λ r. ⌜ made r (λ _. string-bytes (now (out .exit)) ≡ string-bytes (now (out .entry)) ++ print-fault fault) ⌝ }
 {
     let (number, _) = fault.fault.graded();

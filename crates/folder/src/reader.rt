@@ -26,7 +26,7 @@ use queries::query::Query;
 use std::alloc::Global;
 
 impl Reader {
-    pub fn new(heap: Global) -> Reader
+    fn new(heap: Global) -> Reader
         ensures { λ r. ⌜ folder-of r ≡ nothing-read ⌝ }
     {
         Reader { state: State::Start, arity: Vec::new(heap), queries: Vec::new(heap), facts: Vec::new(heap) }

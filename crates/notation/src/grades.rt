@@ -36,7 +36,7 @@ pub impl From<LineFault> for FolderFault as FolderFromLine {
 
 impl TermFault {
     // The number and the level of the fault.
-    pub fn graded(self) -> (u8, Level)
+    fn graded(self) -> (u8, Level)
         ensures { λ r. ⌜ r ≡ graded-term self ⌝ }
     {
         match self {
@@ -47,7 +47,7 @@ impl TermFault {
 }
 
 impl AtomFault {
-    pub fn graded(self) -> (u8, Level)
+    fn graded(self) -> (u8, Level)
         ensures { λ r. ⌜ r ≡ graded-atom self ⌝ }
     {
         match self {
@@ -60,7 +60,7 @@ impl AtomFault {
 }
 
 impl LineFault {
-    pub fn graded(self) -> (u8, Level)
+    fn graded(self) -> (u8, Level)
         ensures { λ r. ⌜ r ≡ graded-line self ⌝ }
     {
         match self {

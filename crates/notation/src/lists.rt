@@ -42,7 +42,7 @@ pub fn whole<T: Word>(s: &[u8]) -> Result<Atom<T>, LineFault>
 }
 
 // A number from `least` to `most` and nothing else.
-pub fn bounded(least: u16, most: u16, s: &[u8]) -> Result<u16, LineFault>
+fn bounded(least: u16, most: u16, s: &[u8]) -> Result<u16, LineFault>
     requires { ⌜ most < 1000 ⌝ }
     ensures { λ r. ⌜ r ≡ whole-number least most (now (s .entry)) ⌝ }
 {

@@ -18,7 +18,7 @@ fn digits(n: u16, s: &[u8]) -> (u16, &[u8])
 }
 
 // The number at the front of `s`, at most `most`, and the text after it.
-pub fn number(most: u16, s: &[u8]) -> Option<(u16, &[u8])>
+pub(crate) fn number(most: u16, s: &[u8]) -> Option<(u16, &[u8])>
     requires { ⌜ most < 1000 ⌝ }
     ensures { λ r. ⌜ some-seen r ≡ read-number most (now (s .entry)) ⌝ }
 {

@@ -31,7 +31,7 @@ fn code(base: u16, most: u16, s: &[u8]) -> (u16, &[u8])
 }
 
 // The code of the term at the front of `s`, and the text after it; a code above all terms tells a fault.
-pub fn read_term(s: &[u8]) -> (u16, &[u8])
+fn read_term(s: &[u8]) -> (u16, &[u8])
     ensures { λ r. ⌜ (r .0, now (r .1)) ≡ read-term (now (s .entry)) ⌝ }
 {
     match s {
@@ -87,7 +87,7 @@ pub impl Word for Value as ValueWord {
 }
 
 // The term at the front of `s`, and the text after it.
-pub fn term<T: Word>(s: &[u8]) -> Result<(T, &[u8]), TermFault>
+fn term<T: Word>(s: &[u8]) -> Result<(T, &[u8]), TermFault>
     ensures { λ r. ⌜ seen r ≡ read-word wordOf (now (s .entry)) ⌝ }
 {
     let (code, rest) = read_term(s);
@@ -122,7 +122,7 @@ fn item<T: Word>(s: &[u8]) -> Result<(T, After, &[u8]), AtomFault>
 }
 
 // One to four terms with commas between them, and the bracket after them.
-pub fn terms<T: Word>(s: &[u8]) -> Result<(Terms<T>, &[u8]), AtomFault>
+fn terms<T: Word>(s: &[u8]) -> Result<(Terms<T>, &[u8]), AtomFault>
     ensures { λ r. ⌜ seen r ≡ read-terms wordOf (now (s .entry)) ⌝ }
 {
     let (a, next, s) = item(s)?;
@@ -165,7 +165,7 @@ fn predicate(s: &[u8]) -> Result<(u8, &[u8]), AtomFault>
 }
 
 // The atom at the front of `s`, and the text after it.
-pub fn atom<T: Word>(s: &[u8]) -> Result<(Atom<T>, &[u8]), AtomFault>
+pub(crate) fn atom<T: Word>(s: &[u8]) -> Result<(Atom<T>, &[u8]), AtomFault>
     ensures { λ r. ⌜ seen r ≡ read-atom wordOf (now (s .entry)) ⌝ }
 {
     let s = byte(b'p', s)?;

@@ -44,7 +44,7 @@ loop-k-again g t c =
     let k = c .loop-k .k in
     let on = g .G·Guide .on (c .args .s .now) (c .route-c .result) in
     let here : Ruled (query-atom a) rest b facts (k + 1) = ruled-more facts a rest b k (c .loop-k .inv .0) (elim (c .else-matched .came) [
-      | else-matched·by·then-matched·else-extends w ↦ not-below facts a rest b k (c .at-f .result) (c .matched .last .out) (c .at-f .ensures) (w .if-matched .ensures tt) (not-from-decides _ (w .extends .ensures) (w .if-extends .left))
+      | else-matched·by·then-matched·else-extends w ↦ not-below facts a rest b k (c .at-f .result) (c .matched .last .out) (c .at-f .ensures) (w .if-matched .ensures tt) (not-from-decides {P = HoldsFrom rest (c .matched .last .out) facts} _ (w .extends .ensures) (w .if-extends .left))
       | else-matched·by·else-matched w ↦ not-clash facts a rest b k (c .at-f .result) (c .at-f .ensures) (w .if-matched .ensures tt)
     ]) in
     (ruled-next facts a rest b on k (c .after-k .result) (c .route-c .ensures) (c .after-k .ensures) here, c .after-k .ensures .here)
