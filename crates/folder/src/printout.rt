@@ -12,23 +12,20 @@ use crate::parts::Reader;
 use crate::printing::put_answers;
 use crate::printing::put_fault;
 use crate::reader::read;
+use index::lowest_in;
 use notation::failures::Failure;
-use search::guide::Plain;
-use search::guide::PlainGuide;
-use search::guide::PlainSource;
-use search::question::lowest;
 use sources::stored::StoredSource;
 use sources::stored::StoredSourceSource;
 use std::alloc::Global;
 use std::fmt;
 
 // Puts the questions, and prints their answers.
-fn answers(reader: &Reader, out: &mut String) -> Result<(), fmt::Error>
+fn answers(heap: Global, reader: &Reader, out: &mut String) -> Result<(), fmt::Error>
     requires { ⌜ string-bytes (now out) ≡ [] ⌝ }
     ensures { λ r. ⌜ made r (λ _. Answered (folder-of (now (reader .entry))) (string-bytes (now (out .exit)))) ⌝ }
 {
     let source = StoredSource { facts: &reader.facts };
-    let found = lowest(&reader.queries, &Plain { source: &source });
+    let found = lowest_in(heap, &reader.queries, &source);
     put_answers(&reader.queries, found, found, out)?;
     Ok(())
 }
@@ -38,7 +35,7 @@ fn printed(heap: Global, text: &[u8]) -> Result<String, fmt::Error>
 {
     let mut out = String::new(heap);
     match read(heap, text) {
-        Ok(reader) => answers(&reader, &mut out)?,
+        Ok(reader) => answers(heap, &reader, &mut out)?,
         Err(Failure::Fault(fault)) => put_fault(fault, &mut out)?,
         Err(Failure::Memory) => return Err(fmt::Error),
     }

@@ -13,9 +13,9 @@ use Rattle.folder.proofs.printout.answers.Needs as need
 
 pub returns : need.returns
 returns c =
-    let found = c .lowest-found .result in
+    let found = c .lowest-in-found .result in
     let d = folder-of (c .args .reader .now) in
-    let over-facts = subst (λ fs. LowestHeld (map atoms-of (c .deref-2 .result .now)) (map fact-atom (take 65535 fs)) found) (c .deref .ensures .value) (c .lowest-found .ensures) in
+    let over-facts = subst (λ fs. LowestHeld (map atoms-of (c .deref-2 .result .now)) (map fact-atom (take 65535 fs)) found) (c .deref .ensures .value) (c .lowest-in-found .ensures) in
     let right : LowestHeld (d .queries) (folder-facts d) found = subst (λ qs. LowestHeld (map atoms-of qs) (folder-facts d) found) (c .deref-2 .ensures .value) over-facts in
     record {
       standing = found;

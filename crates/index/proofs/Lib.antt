@@ -1,0 +1,5 @@
+pub mod Sought
+pub mod Keyed
+pub mod Fitted
+pub mod Leading
+pub mod Covered

@@ -1,0 +1,4 @@
+pub mod Seek
+pub mod Keys
+pub mod Indexed
+pub mod Settled
