@@ -1,3 +1,4 @@
 pub mod Lines
 pub mod Printed
+pub mod Striking
 pub mod Taken

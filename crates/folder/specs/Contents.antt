@@ -19,22 +19,38 @@ use Rattle.folder.specs.declared.contents.Content.the-variants as content
 -- what a line says
 pub data Entry : Type 0 where
   arity : List ℕ → Entry
+  body : List (Atom Term) → Entry
+  head : List (Atom Term) → Entry
   query : List (Atom Term) → Entry
+  strike : ℕ → Entry
+  by : ℕ → Entry
   fact : Atom Value → Entry
 
 abbrev pub entry-key : Entry → Key
 entry-key (arity ns) = key.Arity
+entry-key (body as′) = key.Body
+entry-key (head as′) = key.Head
 entry-key (query as′) = key.Query
+entry-key (strike n) = key.Strike
+entry-key (by n) = key.By
 entry-key (fact f) = key.Fact
 
 abbrev pub content-seen : Content → Entry
 content-seen (content.Arity ns) = arity (vec-items ns)
+content-seen (content.Body as′) = body (vec-items as′)
+content-seen (content.Head as′) = head (vec-items as′)
 content-seen (content.Query as′) = query (vec-items as′)
+content-seen (content.Strike n) = strike n
+content-seen (content.By n) = by n
 content-seen (content.Fact f) = fact f
 
 abbrev pub by-key : Key × List ℕ → Result Entry LineFault
 by-key (key.Arity, s) = carry (λ e. e) (read-list (whole-number 1 4) 44 s) (λ ns. Ok (arity ns))
+by-key (key.Body, s) = carry (λ e. e) (read-list (whole-atom term-of) 59 s) (λ as′. Ok (body as′))
+by-key (key.Head, s) = carry (λ e. e) (read-list (whole-atom term-of) 59 s) (λ as′. Ok (head as′))
 by-key (key.Query, s) = carry (λ e. e) (read-list (whole-atom term-of) 59 s) (λ as′. Ok (query as′))
+by-key (key.Strike, s) = carry (λ e. e) (whole-number 0 999 s) (λ n. Ok (strike n))
+by-key (key.By, s) = carry (λ e. e) (whole-number 0 999 s) (λ n. Ok (by n))
 by-key (key.Fact, s) = carry (λ e. e) (whole-atom value-of s) (λ f. Ok (fact f))
 
 -- what a line says, which is written without its end

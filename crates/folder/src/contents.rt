@@ -11,6 +11,7 @@ use notation::lists::AtomItem;
 use notation::lists::CountItem;
 use notation::lists::list;
 use notation::lists::whole;
+use notation::lists::whole_place;
 use notation::terms::Atom;
 use notation::terms::Fact;
 use notation::terms::Term;
@@ -20,7 +21,11 @@ use std::alloc::Global;
 #[derive(Drop)]
 pub enum Content {
     Arity(Vec<u8>),
+    Body(Vec<Atom<Term>>),
+    Head(Vec<Atom<Term>>),
     Query(Vec<Atom<Term>>),
+    Strike(u16),
+    By(u16),
     Fact(Fact),
 }
 
@@ -30,7 +35,11 @@ impl Content {
     {
         match self {
             Content::Arity(_) => Key::Arity,
+            Content::Body(_) => Key::Body,
+            Content::Head(_) => Key::Head,
             Content::Query(_) => Key::Query,
+            Content::Strike(_) => Key::Strike,
+            Content::By(_) => Key::By,
             Content::Fact(_) => Key::Fact,
         }
     }
@@ -42,7 +51,11 @@ pub(crate) fn read_content(heap: Global, line: &[u8]) -> Result<Content, Failure
 {
     match keyed(line)? {
         (Key::Arity, value) => Ok(Content::Arity(list(heap, b',', value)?)),
+        (Key::Body, value) => Ok(Content::Body(list(heap, b';', value)?)),
+        (Key::Head, value) => Ok(Content::Head(list(heap, b';', value)?)),
         (Key::Query, value) => Ok(Content::Query(list(heap, b';', value)?)),
+        (Key::Strike, value) => Ok(Content::Strike(whole_place(value)?)),
+        (Key::By, value) => Ok(Content::By(whole_place(value)?)),
         (Key::Fact, value) => Ok(Content::Fact(whole(value)?)),
     }
 }

@@ -1,26 +1,56 @@
 // What is printed for a folder.
 ghost use mathlib.Core.Path.{_≡_};
-ghost use mathlib.Core.List.{_++_, map};
-ghost use Prim.Native.Nat.{_≤_, _<_};
+ghost use mathlib.Core.List.{_++_};
 ghost use Rattle.std.specs.Of.String.{string-bytes};
 ghost use Rattle.std.specs.Vec.{made};
-ghost use Rattle.queries.specs.Queries.{atoms-of};
-ghost use Rattle.folder.specs.Printing.{print-standing, print-answer, print-answers, print-fault};
+ghost use Rattle.book.specs.Ledgers.{book-of};
+ghost use Rattle.folder.specs.Folders.{strike-of};
+ghost use Rattle.folder.specs.Printing.{print-event, print-standing, print-kept, print-answer, print-answers, print-fault};
 use crate::parts::Fault;
-use queries::query::Query;
+use crate::parts::Strike;
+use book::ledger::Ledger;
+use book::refusal::Refusal;
+use queries::query::make::print_atoms;
 use std::fmt;
 use std::fmt::Write;
 
-// A `stands=` and a `query=` line for each query.
-fn print_queries(queries: &[Query], out: &mut String) -> Result<(), fmt::Error>
-    ensures { λ r. ⌜ made r (λ _. string-bytes (now (out .exit)) ≡ string-bytes (now (out .entry)) ++ print-standing 0 (map atoms-of (now (queries .entry)))) ⌝ }
+// What a strike answered.
+pub(crate) fn put_event(strike: Strike, answer: Result<(), Refusal>, out: &mut String) -> Result<(), fmt::Error>
+    ensures { λ r. ⌜ made r (λ _. string-bytes (now (out .exit)) ≡ string-bytes (now (out .entry)) ++ print-event (strike-of strike) answer) ⌝ }
 {
-    for (k, q) in queries.iter().enumerate() {
-        write!(out, "stands={k}\nquery=")?;
-        q.print(out)?;
-        write!(out, "\n")?;
+    match answer {
+        Ok(()) => {
+            let k = strike.struck;
+            write!(out, "struck={k}\n")
+        }
+        Err(e) => {
+            let (number, place) = e.number();
+            write!(out, "refused={number},{place}\n")
+        }
+    }
+}
+
+// A `stands=` and a `query=` line for each query that stands.
+pub(crate) fn put_standing(ledger: &Ledger, out: &mut String) -> Result<(), fmt::Error>
+    ensures { λ r. ⌜ made r (λ _. string-bytes (now (out .exit)) ≡ string-bytes (now (out .entry)) ++ print-standing 0 (book-of (now (ledger .entry)) .queries) (book-of (now (ledger .entry)) .standing)) ⌝ }
+{
+    for k in 0..ledger.len() {
+        if ledger.stands(k) {
+            write!(out, "stands={k}\nquery=")?;
+            print_atoms(ledger.atoms(k), out)?;
+            write!(out, "\n")?;
+        }
     }
     Ok(())
+}
+
+fn put_kept(broken: Option<usize>, out: &mut String) -> Result<(), fmt::Error>
+    ensures { λ r. ⌜ made r (λ _. string-bytes (now (out .exit)) ≡ string-bytes (now (out .entry)) ++ print-kept broken) ⌝ }
+{
+    match broken {
+        Some(k) => write!(out, "{k}"),
+        None => write!(out, "kept"),
+    }
 }
 
 fn put_answer(answer: Option<usize>, out: &mut String) -> Result<(), fmt::Error>
@@ -32,12 +62,13 @@ fn put_answer(answer: Option<usize>, out: &mut String) -> Result<(), fmt::Error>
     }
 }
 
-// The standing queries, that the rules are kept, and the two answers.
-pub(crate) fn put_answers(queries: &[Query], standing: Option<usize>, opening: Option<usize>, out: &mut String) -> Result<(), fmt::Error>
-    ensures { λ r. ⌜ made r (λ _. string-bytes (now (out .exit)) ≡ string-bytes (now (out .entry)) ++ print-answers (map atoms-of (now (queries .entry))) standing opening) ⌝ }
+// The answers of the rule check and of the two questions.
+pub(crate) fn put_answers(broken: Option<usize>, standing: Option<usize>, opening: Option<usize>, out: &mut String) -> Result<(), fmt::Error>
+    ensures { λ r. ⌜ made r (λ _. string-bytes (now (out .exit)) ≡ string-bytes (now (out .entry)) ++ print-answers broken standing opening) ⌝ }
 {
-    print_queries(queries, out)?;
-    write!(out, "rules=kept\nstanding=")?;
+    write!(out, "rules=")?;
+    put_kept(broken, out)?;
+    write!(out, "\nstanding=")?;
     put_answer(standing, out)?;
     write!(out, "\nopening=")?;
     put_answer(opening, out)?;

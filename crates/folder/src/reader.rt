@@ -1,5 +1,5 @@
 // Reading a folder, line by line.
-ghost use Rattle.folder.specs.Folders.{folder-of, nothing-read, move, take-arity, take-query, take-fact, take-content, take-line, take-end, read-folder, Moves, Reads, failure-at};
+ghost use Rattle.folder.specs.Folders.{folder-of, nothing-read, move, take-arity, settle as settled, begin-rule, take-body, take-head, add-query, take-query, take-strike, take-by, take-fact, take-content, take-line, take-end, read-folder, Moves, Reads, failure-at};
 ghost use Rattle.folder.specs.Contents.{content-seen};
 ghost use mathlib.Core.Path.{_≡_};
 ghost use Rattle.notation.specs.Failures.{Unless-memory};
@@ -7,9 +7,11 @@ ghost use Rattle.std.specs.Of.Vec.{vec-items};
 ghost use Rattle.std.specs.declared.result.Result.the-variants.{Ok as Fine};
 use crate::contents::Content;
 use crate::contents::read_content;
+use crate::parts::Draft;
 use crate::parts::Fault;
 use crate::parts::Reader;
 use crate::parts::State;
+use crate::parts::Strike;
 use notation::failures::Failure;
 use notation::failures::FailureFromFolder;
 use notation::failures::FailureFromLine;
@@ -22,14 +24,25 @@ use notation::lists::cut;
 use notation::terms::Atom;
 use notation::terms::Fact;
 use notation::terms::Term;
+use queries::body::Body;
 use queries::query::Query;
+use queries::rule::Rule;
 use std::alloc::Global;
 
 impl Reader {
     fn new(heap: Global) -> Reader
         ensures { λ r. ⌜ folder-of r ≡ nothing-read ⌝ }
     {
-        Reader { state: State::Start, arity: Vec::new(heap), queries: Vec::new(heap), facts: Vec::new(heap) }
+        Reader {
+            state: State::Start,
+            arity: Vec::new(heap),
+            draft: Draft::Nothing,
+            rules: Vec::new(heap),
+            queries: Vec::new(heap),
+            pending: 0,
+            strikes: Vec::new(heap),
+            facts: Vec::new(heap),
+        }
     }
 
     // Which keys may follow depends on what was read last.
@@ -38,8 +51,12 @@ impl Reader {
     {
         match (self.state, key) {
             (State::Start, Key::Arity) => self.state = State::Arity,
-            (State::Arity | State::Query, Key::Query) => self.state = State::Query,
-            (State::Query | State::Fact, Key::Fact) => self.state = State::Fact,
+            (State::Arity | State::Head, Key::Body) => self.state = State::Body,
+            (State::Body | State::Head, Key::Head) => self.state = State::Head,
+            (State::Arity | State::Head | State::Query, Key::Query) => self.state = State::Query,
+            (State::Query | State::By, Key::Strike) => self.state = State::Strike,
+            (State::Strike, Key::By) => self.state = State::By,
+            (State::Query | State::By | State::Fact, Key::Fact) => self.state = State::Fact,
             _ => return Err(FolderFault::OutOfOrder),
         }
         Ok(())
@@ -55,14 +72,81 @@ impl Reader {
         Ok(())
     }
 
-    fn take_query(&mut self, atoms: &[Atom<Term>]) -> Result<(), Failure<LineFault>>
-        ensures { λ r. ⌜ Reads (folder-of (now (self .exit))) r (take-query (folder-of (now (self .entry))) (now (atoms .entry))) ⌝ }
+    // The rule that was being read is read.
+    fn settle(&mut self) -> Result<(), Failure<LineFault>>
+        ensures { λ r. ⌜ Reads (folder-of (now (self .exit))) r (Fine (settled (folder-of (now (self .entry))))) ⌝ }
+    {
+        if let Draft::Headed(rule) = self.draft {
+            self.rules.push(rule)?;
+            self.draft = Draft::Nothing;
+            return Ok(());
+        }
+        self.draft = Draft::Nothing;
+        Ok(())
+    }
+
+    fn begin_rule(&mut self, atoms: &[Atom<Term>]) -> Result<(), Failure<LineFault>>
+        ensures { λ r. ⌜ Reads (folder-of (now (self .exit))) r (begin-rule (folder-of (now (self .entry))) (now (atoms .entry))) ⌝ }
+    {
+        if self.rules.len() >= 32 {
+            return Err(Failure::Fault(LineFault::TooMany));
+        }
+        let body = Body::new(&self.arity, atoms)?;
+        self.draft = Draft::Bare(body);
+        Ok(())
+    }
+
+    fn take_body(&mut self, atoms: &[Atom<Term>]) -> Result<(), Failure<LineFault>>
+        ensures { λ r. ⌜ Reads (folder-of (now (self .exit))) r (take-body (folder-of (now (self .entry))) (now (atoms .entry))) ⌝ }
+    {
+        self.settle()?;
+        self.begin_rule(atoms)
+    }
+
+    fn take_head(&mut self, atoms: &[Atom<Term>]) -> Result<(), Failure<LineFault>>
+        ensures { λ r. ⌜ Reads (folder-of (now (self .exit))) r (take-head (folder-of (now (self .entry))) (now (atoms .entry))) ⌝ }
+    {
+        let rule = match self.draft {
+            Draft::Nothing => return Err(Failure::Fault(LineFault::Unreadable)),
+            Draft::Bare(body) => Rule::new(body, &self.arity, atoms)?,
+            Draft::Headed(mut rule) => {
+                rule.add(&self.arity, atoms)?;
+                rule
+            }
+        };
+        self.draft = Draft::Headed(rule);
+        Ok(())
+    }
+
+    fn add_query(&mut self, atoms: &[Atom<Term>]) -> Result<(), Failure<LineFault>>
+        ensures { λ r. ⌜ Reads (folder-of (now (self .exit))) r (add-query (folder-of (now (self .entry))) (now (atoms .entry))) ⌝ }
     {
         if self.queries.len() >= 64 {
             return Err(Failure::Fault(LineFault::TooMany));
         }
         let q = Query::new(&self.arity, atoms)?;
         self.queries.push(q)?;
+        Ok(())
+    }
+
+    fn take_query(&mut self, atoms: &[Atom<Term>]) -> Result<(), Failure<LineFault>>
+        ensures { λ r. ⌜ Reads (folder-of (now (self .exit))) r (take-query (folder-of (now (self .entry))) (now (atoms .entry))) ⌝ }
+    {
+        self.settle()?;
+        self.add_query(atoms)
+    }
+
+    fn take_strike(&mut self, struck: u16)
+        ensures { λ _. ⌜ folder-of (now (self .exit)) ≡ take-strike (folder-of (now (self .entry))) struck ⌝ }
+    {
+        self.pending = struck;
+    }
+
+    fn take_by(&mut self, by: u16) -> Result<(), Failure<LineFault>>
+        ensures { λ r. ⌜ Reads (folder-of (now (self .exit))) r (Fine (take-by (folder-of (now (self .entry))) by)) ⌝ }
+    {
+        let struck = self.pending;
+        self.strikes.push(Strike { struck, by })?;
         Ok(())
     }
 
@@ -78,7 +162,14 @@ impl Reader {
     {
         match content {
             Content::Arity(counts) => self.take_arity(counts),
+            Content::Body(atoms) => self.take_body(&atoms),
+            Content::Head(atoms) => self.take_head(&atoms),
             Content::Query(atoms) => self.take_query(&atoms),
+            Content::Strike(struck) => {
+                self.take_strike(struck);
+                Ok(())
+            }
+            Content::By(by) => self.take_by(by),
             Content::Fact(fact) => self.take_fact(fact),
         }
     }
@@ -102,8 +193,8 @@ impl Reader {
             return Err(Failure::Fault(FolderFault::InLine(LineFault::Unended)));
         }
         match self.state {
-            State::Query | State::Fact => Ok(()),
-            State::Start | State::Arity => Err(Failure::Fault(FolderFault::EndsTooSoon)),
+            State::Query | State::By | State::Fact => Ok(()),
+            State::Start | State::Arity | State::Body | State::Head | State::Strike => Err(Failure::Fault(FolderFault::EndsTooSoon)),
         }
     }
 }

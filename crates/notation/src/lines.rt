@@ -13,7 +13,11 @@ use crate::words::ValueWord;
 #[derive(Clone, Copy, PartialEq, Eq)]
 pub enum Key {
     Arity,
+    Body,
+    Head,
     Query,
+    Strike,
+    By,
     Fact,
 }
 
@@ -29,8 +33,16 @@ fn key_of(name: &[u8]) -> Result<Key, LineFault>
 {
     if same(name, b"arity") {
         Ok(Key::Arity)
+    } else if same(name, b"body") {
+        Ok(Key::Body)
+    } else if same(name, b"head") {
+        Ok(Key::Head)
     } else if same(name, b"query") {
         Ok(Key::Query)
+    } else if same(name, b"strike") {
+        Ok(Key::Strike)
+    } else if same(name, b"by") {
+        Ok(Key::By)
     } else if same(name, b"fact") {
         Ok(Key::Fact)
     } else {

@@ -79,6 +79,13 @@ pub impl Item for u8 as CountItem {
     }
 }
 
+// The number of a rule, a query or an atom, and nothing else.
+pub fn whole_place(s: &[u8]) -> Result<u16, LineFault>
+    ensures { λ r. ⌜ r ≡ whole-number 0 999 (now (s .entry)) ⌝ }
+{
+    bounded(0, 999, s)
+}
+
 // The items of a list, with the separator between them.
 pub fn list<T: Item>(heap: Global, separator: u8, s: &[u8]) -> Result<Vec<T>, Failure<LineFault>>
     ensures { λ r. ⌜ Unless-memory vec-items r (read-list itemOf separator (now (s .entry))) ⌝ }

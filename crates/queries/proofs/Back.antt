@@ -50,7 +50,7 @@ list-back a (b ∷ bs) h =
 
 some-back : (as′ : List (Atom Term)) → valid as′ ≡ true → read-list (whole-atom term-of) 59 (print-atoms as′) ≡ Ok as′
 some-back [] h = absurd (false≢true h)
-some-back (a ∷ bs) h = list-back a bs (and-parts _ _ (and-parts _ _ h .1) .0)
+some-back (a ∷ bs) h = list-back a bs (and-parts _ _ (and-parts _ _ (and-parts _ _ h .0) .1) .0)
 
 pub queries-read-back : Queries-read-back
 queries-read-back q = some-back (atoms-of q) (q .proper)

@@ -1,3 +1,4 @@
+pub mod Adding
 pub mod Back
 pub mod Loops
 pub mod Printed

@@ -3,7 +3,7 @@ use mathlib.Core.Path.{_≡_, refl, sym, ap, _∙_}
 use mathlib.Core.Bool.{Bool, true, false, cond, _&&_, _||_, not}
 use mathlib.Core.List.{List, [], _∷_, _++_}
 use Prim.Native.Nat.{ℕ, _+_, _<_, _≤_}
-use lib.Dec.{eqb, ltb}
+use lib.Dec.{eqb}
 use lib.ListN.{length, getD, set, take, drop}
 use Rattle.std.specs.declared.option.Option.{Option}
 use Rattle.std.specs.declared.option.Option.the-variants.{Some, None}
@@ -14,7 +14,7 @@ use Rattle.notation.specs.declared.terms.Atom.{Atom}
 use Rattle.notation.specs.declared.terms.Term.{Term}
 use Rattle.notation.specs.declared.terms.Term.the-variants.{Constant, Variable}
 use Rattle.notation.specs.Reading.{carry}
-use Rattle.queries.specs.Checks.{atom-terms, all-terms, each, numbered, same-atom, among, distinct}
+use Rattle.queries.specs.Checks.{atom-terms, all-terms, each, allowed, numbered, same-atom, among, distinct}
 
 -- ---------------------------------------------------------------- faults
 
@@ -32,20 +32,31 @@ push true e o p f = refl
 push false true o p f = refl
 push false false o p f = refl
 
-numbered-append : (n : ℕ) (xs ys : List Term) → numbered n (xs ++ ys) ≡ and-then (numbered n xs) (λ m. numbered m ys)
-numbered-append n [] ys = refl
-numbered-append n (Constant k ∷ xs) ys = numbered-append n xs ys
-numbered-append n (Variable v ∷ xs) ys =
-    ap (λ o. cond (ltb v n) o (cond (eqb v n) (numbered (n + 1) (xs ++ ys)) None)) (numbered-append n xs ys)
-    ∙ ap (λ o. cond (ltb v n) (and-then (numbered n xs) (λ m. numbered m ys)) (cond (eqb v n) o None)) (numbered-append (n + 1) xs ys)
-    ∙ push (ltb v n) (eqb v n) (numbered n xs) (numbered (n + 1) xs) (λ m. numbered m ys)
+module _ (known start : ℕ) where
+  abbrev from : ℕ → List Term → Option ℕ
+  from n ts = numbered known start n ts
 
--- o is what was answered for the terms of one atom more
-pub through-more : (atoms : List (Atom Term)) (i n : ℕ) (d : Atom Term) (o : Option ℕ) → i < length atoms → o ≡ numbered n (atom-terms (getD atoms i d)) → and-then o (λ m. numbered m (all-terms (drop (i + 1) atoms))) ≡ numbered n (all-terms (drop i atoms))
-through-more atoms i n d o h e =
-    ap (λ p. and-then p (λ m. numbered m (all-terms (drop (i + 1) atoms)))) e
-    ∙ sym (numbered-append n (atom-terms (getD atoms i d)) (all-terms (drop (i + 1) atoms)))
-    ∙ sym (at-drop-more (λ as′. numbered n (all-terms as′)) atoms i d h)
+  numbered-append : (n : ℕ) (xs ys : List Term) → from n (xs ++ ys) ≡ and-then (from n xs) (λ m. from m ys)
+  numbered-append n [] ys = refl
+  numbered-append n (Constant k ∷ xs) ys = numbered-append n xs ys
+  numbered-append n (Variable v ∷ xs) ys =
+      ap (λ o. cond (allowed known start n v) o (cond (eqb v n) (from (n + 1) (xs ++ ys)) None)) (numbered-append n xs ys)
+      ∙ ap (λ o. cond (allowed known start n v) (and-then (from n xs) (λ m. from m ys)) (cond (eqb v n) o None)) (numbered-append (n + 1) xs ys)
+      ∙ push (allowed known start n v) (eqb v n) (from n xs) (from (n + 1) xs) (λ m. from m ys)
+
+  -- o is what was answered for the terms of one atom more
+  pub through-more : (atoms : List (Atom Term)) (i n : ℕ) (d : Atom Term) (o : Option ℕ) → i < length atoms → o ≡ from n (atom-terms (getD atoms i d)) → and-then o (λ m. from m (all-terms (drop (i + 1) atoms))) ≡ from n (all-terms (drop i atoms))
+  through-more atoms i n d o h e =
+      ap (λ p. and-then p (λ m. from m (all-terms (drop (i + 1) atoms)))) e
+      ∙ sym (numbered-append n (atom-terms (getD atoms i d)) (all-terms (drop (i + 1) atoms)))
+      ∙ sym (at-drop-more (λ as′. from n (all-terms as′)) atoms i d h)
+
+  -- one term, and then the others
+  pub seen-then : (n m : ℕ) (t : Term) (ts : List Term) → Some m ≡ from n (t ∷ []) → from m ts ≡ from n (t ∷ ts)
+  seen-then n m t ts e = sym (numbered-append n (t ∷ []) ts ∙ ap (λ o. and-then o (λ k. from k ts)) (sym e))
+
+  pub unseen-then : (n : ℕ) (t : Term) (ts : List Term) → None ≡ from n (t ∷ []) → None ≡ from n (t ∷ ts)
+  unseen-then n t ts e = sym (numbered-append n (t ∷ []) ts ∙ ap (λ o. and-then o (λ k. from k ts)) (sym e))
 
 -- ---------------------------------------------------------------- repeats
 

@@ -54,11 +54,20 @@ listed arity a = counted (length (atom-terms a)) (nth arity (a .predicate))
 
 -- ---------------------------------------------------------------- variables
 
--- how many variables there are after these terms, with n before; none where a number is passed over
-abbrev pub numbered : ℕ → List Term → Option ℕ
-numbered n [] = Some n
-numbered n (Constant k ∷ ts) = numbered n ts
-numbered n (Variable v ∷ ts) = cond (ltb v n) (numbered n ts) (cond (eqb v n) (numbered (n + 1) ts) None)
+-- the variable v may stand here: it is one of the first `known`, or one from `start` on that has appeared, n being the next
+abbrev pub allowed : ℕ → ℕ → ℕ → ℕ → Bool
+allowed known start n v = ltb v known || (leb start v && ltb v n)
+
+-- the next variable after these terms, with n the next before; none where a number is passed over or not allowed
+abbrev pub numbered : ℕ → ℕ → ℕ → List Term → Option ℕ
+numbered known start n [] = Some n
+numbered known start n (Constant k ∷ ts) = numbered known start n ts
+numbered known start n (Variable v ∷ ts) = cond (allowed known start n v) (numbered known start n ts) (cond (eqb v n) (numbered known start (n + 1) ts) None)
+
+-- the next variable is n
+abbrev pub next-is : Option ℕ → ℕ → Bool
+next-is (Some m) n = eqb m n
+next-is None n = false
 
 -- ---------------------------------------------------------------- repeats
 
@@ -93,25 +102,34 @@ abbrev pub all-fit : List (Atom Term) → Bool
 all-fit [] = true
 all-fit (a ∷ bs) = atom-fits term-fits a && all-fit bs
 
+-- one to `most` different atoms, each in range
+abbrev pub fine : ℕ → List (Atom Term) → Bool
+fine most as′ = (leb 1 (length as′) && leb (length as′) most) && (all-fit as′ && distinct as′)
+
 -- one to sixteen different atoms, with variables numbered from v0 by first appearance without a gap
 abbrev pub valid : List (Atom Term) → Bool
-valid as′ = (leb 1 (length as′) && leb (length as′) 16) && (all-fit as′ && (isSome (numbered 0 (all-terms as′)) && distinct as′))
+valid as′ = fine 16 as′ && isSome (numbered 0 0 0 (all-terms as′))
 
 abbrev pub if-so : {E : Type 0} → Bool → E → Result (Unit {0}) E
 if-so true e = Ok tt
 if-so false e = Err e
 
--- the first fault of the atoms under the listed numbers of terms: none, numbers out of range, too many atoms, predicates,
--- variables, repeats
-abbrev pub check-query : List ℕ → List (Atom Term) → Result (Unit {0}) LineFault
-check-query arity as′ =
+abbrev pub if-some : {X E : Type 0} → Option X → E → Result X E
+if-some (Some x) e = Ok x
+if-some None e = Err e
+
+-- the next variable after the atoms, of which there may be `most`, under the listed numbers of terms; or their first
+-- fault: none, numbers out of range, too many atoms, predicates, variables, repeats
+abbrev pub check-atoms : ℕ → ℕ → ℕ → ℕ → List ℕ → List (Atom Term) → Result ℕ LineFault
+check-atoms most known start n arity as′ =
     carry (λ e. e) (if-so (leb 1 (length as′)) (InAtom Broken)) (λ _.
     carry InAtom (each ranged as′) (λ _.
-    carry (λ e. e) (if-so (leb (length as′) 16) TooMany) (λ _.
+    carry (λ e. e) (if-so (leb (length as′) most) TooMany) (λ _.
     carry InAtom (each (listed arity) as′) (λ _.
-    carry (λ e. e) (if-so (isSome (numbered 0 (all-terms as′))) (InAtom (InTerm Misnumbered))) (λ _.
-    if-so (distinct as′) (InAtom Repeated))))))
+    carry (λ e. e) (if-some (numbered known start n (all-terms as′)) (InAtom (InTerm Misnumbered))) (λ m.
+    carry (λ e. e) (if-so (distinct as′) (InAtom Repeated)) (λ _.
+    Ok m))))))
 
 -- the query of the atoms, or their first fault
 abbrev pub make-query : List ℕ → List (Atom Term) → Result (List (Atom Term)) LineFault
-make-query arity as′ = carry (λ e. e) (check-query arity as′) (λ _. Ok as′)
+make-query arity as′ = carry (λ e. e) (check-atoms 16 0 0 0 arity as′) (λ _. Ok as′)

@@ -5,7 +5,7 @@ ghost use mathlib.Core.List.{[], _∷_};
 ghost use Rattle.notation.specs.Fits.{term-fits, terms-fit};
 ghost use Rattle.notation.specs.Logic.{terms-of};
 ghost use lib.ListN.{length};
-ghost use Rattle.queries.specs.Checks.{atom-terms, all-terms, each, ranged, listed as is-listed, numbered, same-atom, among as is-among, distinct as is-distinct, check-query};
+ghost use Rattle.queries.specs.Checks.{atom-terms, all-terms, each, ranged, listed as is-listed, numbered, same-atom, among as is-among, distinct as is-distinct, check-atoms};
 use notation::faults::AtomFault;
 use notation::faults::LineFault;
 use notation::faults::TermFault;
@@ -93,18 +93,26 @@ fn all_listed(arity: &[u8], atoms: &[Atom<Term>]) -> Result<(), AtomFault>
     Ok(())
 }
 
-// How many variables there are after `t`, with `n` before; none where a number is passed over.
-fn seen(n: usize, t: Term) -> Option<usize>
-    ensures { λ r. ⌜ r ≡ numbered n (t ∷ []) ⌝ }
+// Which variables atoms may have: the first `known`, those from `start` on that have appeared, and `next`.
+#[derive(Clone, Copy)]
+pub struct Scope {
+    pub known: usize,
+    pub start: usize,
+    pub next: usize,
+}
+
+// The next variable after `t`; none where a number is passed over or not allowed.
+fn seen(scope: Scope, t: Term) -> Option<usize>
+    ensures { λ r. ⌜ r ≡ numbered (scope .known) (scope .start) (scope .next) (t ∷ []) ⌝ }
 {
     match t {
-        Term::Constant(_) => Some(n),
+        Term::Constant(_) => Some(scope.next),
         Term::Variable(v) => {
             let v = v as usize;
-            if v < n {
-                Some(n)
-            } else if v == n {
-                Some(n + 1)
+            if v < scope.known || scope.start <= v && v < scope.next {
+                Some(scope.next)
+            } else if v == scope.next {
+                Some(v + 1)
             } else {
                 None
             }
@@ -112,26 +120,33 @@ fn seen(n: usize, t: Term) -> Option<usize>
     }
 }
 
-fn through(n: usize, a: Atom<Term>) -> Option<usize>
-    ensures { λ r. ⌜ r ≡ numbered n (atom-terms a) ⌝ }
+fn through(scope: Scope, a: Atom<Term>) -> Option<usize>
+    ensures { λ r. ⌜ r ≡ numbered (scope .known) (scope .start) (scope .next) (atom-terms a) ⌝ }
 {
     match a.terms {
-        Terms::One(t) => seen(n, t),
-        Terms::Two(t, u) => seen(seen(n, t)?, u),
-        Terms::Three(t, u, v) => seen(seen(seen(n, t)?, u)?, v),
-        Terms::Four(t, u, v, w) => seen(seen(seen(seen(n, t)?, u)?, v)?, w),
+        Terms::One(t) => seen(scope, t),
+        Terms::Two(t, u) => seen(Scope { next: seen(scope, t)?, ..scope }, u),
+        Terms::Three(t, u, v) => {
+            let scope = Scope { next: seen(scope, t)?, ..scope };
+            seen(Scope { next: seen(scope, u)?, ..scope }, v)
+        }
+        Terms::Four(t, u, v, w) => {
+            let scope = Scope { next: seen(scope, t)?, ..scope };
+            let scope = Scope { next: seen(scope, u)?, ..scope };
+            seen(Scope { next: seen(scope, v)?, ..scope }, w)
+        }
     }
 }
 
-// How many variables there are; none where they are misnumbered.
-fn variables(atoms: &[Atom<Term>]) -> Option<usize>
-    ensures { λ r. ⌜ r ≡ numbered 0 (all-terms (now (atoms .entry))) ⌝ }
+// The next variable after the atoms; none where they are misnumbered.
+fn variables(scope: Scope, atoms: &[Atom<Term>]) -> Option<usize>
+    ensures { λ r. ⌜ r ≡ numbered (scope .known) (scope .start) (scope .next) (all-terms (now (atoms .entry))) ⌝ }
 {
-    let mut n = 0;
+    let mut next = scope.next;
     for a in atoms {
-        n = through(n, *a)?;
+        next = through(Scope { next, ..scope }, *a)?;
     }
-    Some(n)
+    Some(next)
 }
 
 fn same(a: Atom<Term>, b: Atom<Term>) -> bool
@@ -163,23 +178,24 @@ fn distinct(atoms: &[Atom<Term>]) -> bool
     true
 }
 
-// The first fault of the atoms, where `arity` lists the numbers of terms of p0, p1 and so on.
-pub fn check(arity: &[u8], atoms: &[Atom<Term>]) -> Result<(), LineFault>
-    ensures { λ r. ⌜ r ≡ check-query (now (arity .entry)) (now (atoms .entry)) ⌝ }
+// The next variable after the atoms, of which there may be `most`, or their first fault; `arity` lists the numbers of
+// terms of p0, p1 and so on.
+pub fn check(most: usize, scope: Scope, arity: &[u8], atoms: &[Atom<Term>]) -> Result<usize, LineFault>
+    ensures { λ r. ⌜ r ≡ check-atoms most (scope .known) (scope .start) (scope .next) (now (arity .entry)) (now (atoms .entry)) ⌝ }
 {
     if atoms.is_empty() {
         return Err(LineFault::InAtom(AtomFault::Broken));
     }
     all_in_range(atoms)?;
-    if atoms.len() > 16 {
+    if atoms.len() > most {
         return Err(LineFault::TooMany);
     }
     all_listed(arity, atoms)?;
-    if variables(atoms).is_none() {
+    let Some(next) = variables(scope, atoms) else {
         return Err(LineFault::InAtom(AtomFault::InTerm(TermFault::Misnumbered)));
-    }
+    };
     if !distinct(atoms) {
         return Err(LineFault::InAtom(AtomFault::Repeated));
     }
-    Ok(())
+    Ok(next)
 }

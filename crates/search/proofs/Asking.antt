@@ -16,7 +16,7 @@ use Rattle.notation.specs.declared.terms.Terms.the-variants.{One, Two, Three, F
 use Rattle.notation.specs.Fits.{term-fits, terms-fit}
 use Rattle.notation.specs.Logic.{Facts, query-atom}
 use Rattle.queries.specs.declared.query.Query.{Query}
-use Rattle.queries.specs.Checks.{all-fit, valid}
+use Rattle.queries.specs.Checks.{all-fit, fine, valid}
 use Rattle.queries.specs.Queries.{atoms-of}
 use Rattle.search.specs.Answers.{HoldsAt}
 use Rattle.search.specs.Fitting.{slot-fits, variables-fit}
@@ -43,9 +43,12 @@ atoms-from : (as′ : List (Atom Term)) → all-fit as′ ≡ true → variables
 atoms-from [] h = refl
 atoms-from (a ∷ bs) h = let p = and-parts _ _ h in and-from _ _ (terms-from (a .terms) (and-parts _ _ (p .0) .1)) (atoms-from bs (p .1))
 
+pub fine-fits : (most : ℕ) (as′ : List (Atom Term)) → fine most as′ ≡ true → variables-fit as′ ≡ true
+fine-fits most as′ h = atoms-from as′ (and-parts _ _ (and-parts _ _ h .1) .0)
+
 -- a query's variables are among the 32
 pub query-fits : (q : Query) → variables-fit (atoms-of q) ≡ true
-query-fits q = atoms-from (atoms-of q) (and-parts _ _ (and-parts _ _ (q .proper) .1) .0)
+query-fits q = fine-fits 16 (atoms-of q) (and-parts _ _ (q .proper) .0)
 
 -- the query with number k
 pub held-at : (qs : List Query) (l : Facts) (k : ℕ) (q : Query) → k < length qs → q ≡ getD qs k q → Holds (map query-atom (atoms-of q)) l → HoldsAt (map atoms-of qs) l k

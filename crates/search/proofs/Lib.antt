@@ -4,3 +4,8 @@ pub mod Places
 pub mod Extending
 pub mod Starting
 pub mod Asking
+pub mod Composing
+pub mod Heads
+pub mod Agreeing
+pub mod Bodies
+pub mod Ruling

@@ -17,9 +17,9 @@ use Rattle.notation.specs.declared.terms.Value.{Value}
 use Rattle.notation.specs.declared.terms.Terms.the-variants.{One}
 use Rattle.notation.specs.declared.terms.Atom.{Atom as WrittenAtom}
 use Rattle.notation.specs.Logic.{Term, Atom, con, as-value, Facts}
-use Rattle.search.specs.Fitting.{variables-fit}
+use Rattle.search.specs.Fitting.{slots-fit, variables-fit}
 use Rattle.search.specs.Holding.{Holds}
-use Rattle.search.specs.Bindings.{HoldsFrom}
+use Rattle.search.specs.Bindings.{Agrees, HoldsFrom}
 use Rattle.search.proofs.Places.{makes-none}
 
 -- the first atom of a query and the others, as the checker reads them
@@ -31,6 +31,9 @@ others q = take (length q - 1) (drop 1 q)
 
 pub first-others : (q : List (WrittenAtom WrittenTerm)) → 1 ≤ length q → q ≡ first q ∷ others q
 first-others q l = drop-more q 0 _ (omega arith) ∙ ap (λ more. first q ∷ more) (sym (take-rest q 1))
+
+pub first-fits : (q : List (WrittenAtom WrittenTerm)) → 1 ≤ length q → variables-fit q ≡ true → slots-fit (first q) ≡ true
+first-fits q l fit = and-parts _ _ (ap variables-fit (sym (first-others q l)) ∙ fit) .0
 
 pub others-fit : (q : List (WrittenAtom WrittenTerm)) → 1 ≤ length q → variables-fit q ≡ true → variables-fit (others q) ≡ true
 others-fit q l fit = and-parts _ _ (ap variables-fit (sym (first-others q l)) ∙ fit) .1
@@ -50,5 +53,8 @@ open-at zero v = refl
 open-at (suc n) zero = refl
 open-at (suc n) (suc v) = open-at n v
 
+pub open-agrees : (n : ℕ) (h : ℕ → Term) → Agrees h (replicate n None)
+open-agrees n h v x e = let o = open-at n v in cc
+
 pub open-start : (facts : Facts) (q : List (Atom Term)) (n : ℕ) (r : Bool) → Decides r (HoldsFrom q (replicate n None) facts) → Decides r (Holds q facts)
-open-start facts q n r d = decides-like r (λ p. (p .0, p .1 .1)) (λ p. (p .0, ((λ v x e. let o = open-at n v in cc), p .1))) d
+open-start facts q n r d = decides-like r (λ p. (p .0, p .1 .1)) (λ p. (p .0, (open-agrees n (p .0), p .1))) d

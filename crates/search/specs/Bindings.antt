@@ -65,6 +65,6 @@ May b a f = (a .predicate ≡ f .predicate) × Each (Free b) (terms-of (a .terms
 abbrev pub HoldsFrom : List (Atom Term) → List (Option Value) → Facts → Type 0
 HoldsFrom q b facts = (h : ℕ → Term) × (Agrees h b × Makes h q facts)
 
--- no giving that agrees with b makes a one of the first n facts, and the rest facts of the list
-abbrev pub Ruled : Atom Term → List (Atom Term) → List (Option Value) → Facts → ℕ → Type 0
-Ruled a rest b facts n = (h : ℕ → Term) → Agrees h b → Makes h rest facts → (k : ℕ) → k < n → nth facts k ≡ Some (rename (put h) a) → ⊥
+-- Q holds of each giving that agrees with b, makes a one of the first n facts, and the rest facts of the list
+abbrev pub Settled : ((ℕ → Term) → Type 0) → Atom Term → List (Atom Term) → List (Option Value) → Facts → ℕ → Type 0
+Settled Q a rest b facts n = (h : ℕ → Term) → Agrees h b → Makes h rest facts → (k : ℕ) → k < n → nth facts k ≡ Some (rename (put h) a) → Q h

@@ -15,8 +15,10 @@ use notation::terms::Term;
 use sources::Source;
 
 pub mod guide;
+pub mod laws;
 pub mod matching;
 pub mod question;
+pub mod rules;
 
 // Whether the atoms hold with what `b` has given: they are tried in their order, and for each the places along
 // the route that `s` has for it, in ascending order.

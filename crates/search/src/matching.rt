@@ -42,12 +42,13 @@ fn may_match(b: &Binding, a: &Atom<Term>, f: &Fact) -> bool
     match (a.terms, f.terms) {
         (Terms::One(s), Terms::One(x)) => free(b, s, x),
         (Terms::Two(s, t), Terms::Two(x, y)) => free(b, s, x) && free(b, t, y),
-        (Terms::Three(s, t, u), Terms::Three(x, y, z)) => {
-            free(b, s, x) && free(b, t, y) && free(b, u, z)
-        }
-        (Terms::Four(s, t, u, v), Terms::Four(x, y, z, w)) => {
-            free(b, s, x) && free(b, t, y) && free(b, u, z) && free(b, v, w)
-        }
+        (Terms::Three(s, t, u), Terms::Three(x, y, z)) => free(b, s, x)
+            && free(b, t, y)
+            && free(b, u, z),
+        (Terms::Four(s, t, u, v), Terms::Four(x, y, z, w)) => free(b, s, x)
+            && free(b, t, y)
+            && free(b, u, z)
+            && free(b, v, w),
         _ => false,
     }
 }

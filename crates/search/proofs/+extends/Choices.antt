@@ -4,14 +4,14 @@ use mathlib.Core.List.{map}
 use Prim.Native.Nat.{_<_, _-_}
 use lib.ListN.{length}
 use Rattle.notation.specs.Logic.{query-atom}
-use Rattle.search.specs.Bindings.{Ruled}
+use Rattle.search.specs.Bindings.{Settled}
 use Rattle.search.proofs.+extends.Given as given
 
 abbrev pub μ-extends : given.MeasureT-extends
 μ-extends g l = length (l .q .now)
 
 abbrev pub Inv-loop-k : given.InvT-loop-k
-Inv-loop-k g l = Ruled (query-atom (l .a)) (map query-atom (l .rest)) (l .b) (g .G·Source .facts (l .s)) (l .k) × (l .k < length (g .G·Source .facts (l .s)) → g .G·Guide .on (l .s) (l .c) (l .k) ≡ true)
+Inv-loop-k g l = Settled (λ h. ⊥) (query-atom (l .a)) (map query-atom (l .rest)) (l .b) (g .G·Source .facts (l .s)) (l .k) × (l .k < length (g .G·Source .facts (l .s)) → g .G·Guide .on (l .s) (l .c) (l .k) ≡ true)
 
 abbrev pub μ-loop-k : given.MeasureT-loop-k
 μ-loop-k g l = l .n - l .k

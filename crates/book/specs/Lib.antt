@@ -1,0 +1,5 @@
+pub mod Ledgers
+pub mod Questions
+pub mod Rows
+pub mod Strikes
+pub mod Runs
