@@ -1,4 +1,6 @@
 // A folder's text: its lines, and what is printed for it.
+#![tactic(auto)]
+
 pub mod buffer;
 mod contents;
 pub mod parts;

@@ -1,4 +1,6 @@
 // An index of facts, and the search over it.
+#![tactic(auto)]
+
 ghost use Rattle.std.specs.Prelude.{map};
 ghost use Rattle.queries.specs.Queries.{atoms_of};
 ghost use Rattle.search.specs.Answers.{LowestHeld};

@@ -1,4 +1,6 @@
 // The law of the ledger, after every list of calls.
+#![tactic(auto)]
+
 ghost use Rattle.laws.specs.Law.{LawHolds};
 ghost use Rattle.laws.specs.Offerable.{DerivationsCanBeOffered, StepsAreOffered, DerivationHolds};
 ghost use Rattle.laws.specs.Runs.{CallsDo, RunsDo};

@@ -1,4 +1,6 @@
 // Reads a folder from standard input, and writes its printout to standard output.
+#![tactic(auto)]
+
 ghost use Rattle.std.specs.Prelude.{◌≤◌, length, IfOk};
 
 use folder::buffer::Unprinted;

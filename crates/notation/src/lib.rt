@@ -1,4 +1,6 @@
 // Terms, atoms and facts: how they are written and read, and what can be wrong with a text.
+#![tactic(auto)]
+
 pub mod failures;
 pub mod faults;
 pub mod grades;

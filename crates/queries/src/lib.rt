@@ -1,4 +1,6 @@
 // Conjunctive queries, and rules.
+#![tactic(auto)]
+
 mod arrays;
 pub mod body;
 pub mod checks;

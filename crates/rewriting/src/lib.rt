@@ -1,4 +1,6 @@
 // Steps: classes of ties, right steps, and the new query that a step makes.
+#![tactic(auto)]
+
 mod classes;
 mod draft;
 pub mod judge;

@@ -1,4 +1,6 @@
 // Whether a query holds: the search for a giving of values to its variables that makes each atom a fact.
+#![tactic(auto)]
+
 ghost use Rattle.std.specs.Prelude.{◌≡◌, true, map, Decides};
 ghost use Rattle.notation.specs.Logic.{query_atom};
 ghost use Rattle.search.specs.Fitting.{variables_fit};

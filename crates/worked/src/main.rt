@@ -1,4 +1,6 @@
 // Runs folders, named on standard input, and tells whether each prints what is stored beside it.
+#![tactic(auto)]
+
 use folder::buffer::Unprinted;
 use folder::printout::printout;
 use std::{fs, io};
