@@ -26,7 +26,7 @@ pub fn cut(separator: u8, s: &[u8]) -> Option<(&[u8], &[u8])>
 
 // An atom and nothing else.
 pub fn whole<T: Word>(s: &[u8]) -> Result<Atom<T>, LineFault>
-    ensures { result ≡ whole_atom word_of s.now }
+    ensures { result ≡ whole_atom T.word_of s.now }
 {
     let (a, rest) = atom(s)?;
     if rest.is_empty() {
@@ -83,7 +83,7 @@ pub fn whole_place(s: &[u8]) -> Result<u16, LineFault>
 
 // The items of a list, with the separator between them.
 pub fn list<T: Item>(heap: Global, separator: u8, s: &[u8]) -> Result<Vec<T>, Failure<LineFault>>
-    ensures { UnlessMemory vec_items result (read_list item_of separator s.now) }
+    ensures { UnlessMemory vec_items result (read_list T.item_of separator s.now) }
 {
     let mut items = Vec::new(heap);
     let mut left = s;

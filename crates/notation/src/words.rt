@@ -82,7 +82,7 @@ impl Word for Value {
 
 // The term at the front of `s`, and the text after it.
 fn term<T: Word>(s: &[u8]) -> Result<(T, &[u8]), TermFault>
-    ensures { seen result ≡ read_word word_of s.now }
+    ensures { seen result ≡ read_word T.word_of s.now }
 {
     let (code, rest) = read_term(s);
     let t = T::of_code(code)?;
@@ -108,7 +108,7 @@ fn after_term(s: &[u8]) -> Result<(After, &[u8]), AtomFault>
 
 // A term inside the brackets, what follows it, and the text after both.
 fn item<T: Word>(s: &[u8]) -> Result<(T, After, &[u8]), AtomFault>
-    ensures { item_seen result ≡ read_item word_of s.now }
+    ensures { item_seen result ≡ read_item T.word_of s.now }
 {
     let (t, s) = term(s)?;
     let (next, s) = after_term(s)?;
@@ -117,7 +117,7 @@ fn item<T: Word>(s: &[u8]) -> Result<(T, After, &[u8]), AtomFault>
 
 // One to four terms with commas between them, and the bracket after them.
 fn terms<T: Word>(s: &[u8]) -> Result<(Terms<T>, &[u8]), AtomFault>
-    ensures { seen result ≡ read_terms word_of s.now }
+    ensures { seen result ≡ read_terms T.word_of s.now }
 {
     let (a, next, s) = item(s)?;
     if let After::Bracket = next {
@@ -160,7 +160,7 @@ fn predicate(s: &[u8]) -> Result<(u8, &[u8]), AtomFault>
 
 // The atom at the front of `s`, and the text after it.
 pub(crate) fn atom<T: Word>(s: &[u8]) -> Result<(Atom<T>, &[u8]), AtomFault>
-    ensures { seen result ≡ read_atom word_of s.now }
+    ensures { seen result ≡ read_atom T.word_of s.now }
 {
     let s = byte(b'p', s)?;
     let (predicate, s) = predicate(s)?;

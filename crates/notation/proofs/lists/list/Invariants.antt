@@ -4,7 +4,7 @@ use Rattle.notation.proofs.Pieces.{after_items}
 use Rattle.notation.proofs.lists.list.Given as goal
 
 abbrev pub invariant-loop-piece : goal.invariant-loop-piece
-invariant-loop-piece g l = after_items (vec_items l.items) (read_list g.T-as-Item.item_of l.separator l.left) ≡ read_list g.T-as-Item.item_of l.separator l.s
+invariant-loop-piece g l = after_items (vec_items l.items) (read_list g.T.Item.item_of l.separator l.left) ≡ read_list g.T.Item.item_of l.separator l.s
 
 abbrev pub decreases-loop-piece : goal.decreases-loop-piece
 decreases-loop-piece g l = length l.left

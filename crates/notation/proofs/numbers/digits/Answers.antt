@@ -2,7 +2,7 @@ use Rattle.std.proofs.Common.{sym, ◌∙◌, arith, rules}
 use Rattle.std.proofs.lemmas.Bool.Decides.{nat_tests}
 use Rattle.notation.proofs.Fronts.{scan_more, scan_end}
 use Rattle.notation.proofs.numbers.digits.Goals as goal
-use Rattle.notation.proofs.numbers.digits.Goals.{in-default, in-default·2, in-default·3}
+use Rattle.notation.proofs.numbers.digits.Goals.{in_default, in_default-2, in_default-3}
 
 pub loop-s-preserved : goal.loop-s-preserved
 loop-s-preserved c = (
@@ -13,5 +13,5 @@ loop-s-preserved c = (
 pub returns : goal.returns
 returns c =
     sym (scan_end c.loop-s.n c.loop-s.s.now
-    (λ h. elim c.if-s-lt1.branch [ in-default w ↦ grind (arith, nat_tests) | in-default·2 w ↦ grind (arith, nat_tests) | in-default·3 w ↦ grind (arith, nat_tests) ]))
+    (λ h. elim c.if-s-lt1.branch [ in_default w ↦ grind (arith, nat_tests) | in_default-2 w ↦ grind (arith, nat_tests) | in_default-3 w ↦ grind (arith, nat_tests) ]))
     ∙ c.loop-s.invariant.1
