@@ -3,3 +3,4 @@ pub mod Fronts
 pub mod Lacks
 pub mod Pieces
 pub mod Shown
+pub mod Equal

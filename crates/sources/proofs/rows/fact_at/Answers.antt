@@ -4,8 +4,8 @@ use Rattle.notation.specs.Logic.{fact_atom}
 use Rattle.sources.proofs.Counting.{facts_less, told_fact}
 use Rattle.sources.proofs.rows.fact_at.Goals as goal
 
-pub offset-bounds-rows-k : goal.offset-bounds-rows-k
-offset-bounds-rows-k c = let less = facts_less c.args.rows.now in search rules
+pub offset_bounds-rows-k : goal.offset_bounds-rows-k
+offset_bounds-rows-k c = let less = facts_less c.args.rows.now in search rules
 
 pub bounds-rows-k : goal.bounds-rows-k
 bounds-rows-k c = omega (arith, facts_less c.args.rows.now)

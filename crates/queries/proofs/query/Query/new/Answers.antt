@@ -4,7 +4,7 @@ use Rattle.queries.specs.Checks.{valid}
 use Rattle.queries.proofs.Valid.{valid_from_check, few_from_fine}
 use Rattle.queries.proofs.query.Query.new.Goals as goal
 
-pub invariant-of-result : goal.invariant-of-result
-invariant-of-result c =
-    let v = valid_from_check c.args.arity.now c.args.atoms.now _ (sym c.in-ok-check.ensures) in
-    (few_from_fine 16 c.args.atoms.now (and_parts _ _ v).0, (ap valid c.fill.ensures ∙ v, tt))
+pub invariant_of-result : goal.invariant_of-result
+invariant_of-result c =
+    let v = valid_from_check c.args.arity.now c.args.atoms.now _ (sym c.in_ok-check.ensures) in
+    record { within = few_from_fine 16 c.args.atoms.now (and_parts _ _ v).0; proper = ap valid c.fill.ensures ∙ v }

@@ -4,7 +4,7 @@ use Rattle.sources.proofs.Cutting.{cut_before, cut_past}
 use Rattle.sources.proofs.stored.StoredSourceSource.fact.Goals as goal
 
 pub returns-then-k-lt65535 : goal.returns-then-k-lt65535
-returns-then-k-lt65535 c = c.fact-at.ensures ∙ cut_before fact_atom 65535 c.args.self.now.facts.now c.args.k (omega arith)
+returns-then-k-lt65535 c = c.fact_at.ensures ∙ cut_before fact_atom 65535 c.args.self.now.facts.now c.args.k (omega arith)
 
 pub returns-else-k-lt65535 : goal.returns-else-k-lt65535
 returns-else-k-lt65535 c = cut_past fact_atom 65535 c.args.self.now.facts.now c.args.k (omega arith)
