@@ -13,7 +13,7 @@ returns-in-Variable c =
     let free = subst (λ t. Free c.args.b.now t c.args.x) c.in-Variable.is (c.free.ensures.0 c.if-not-free.false) in
     simp c.in-Variable.is (narrow_variable _ _ _ inside free)
 
-pub returns-in-default : goal.returns-in-default
-returns-in-default c =
-    let free = subst (λ t. Free c.args.b.now t c.args.x) c.in-default.is (c.free.ensures.0 c.if-not-free.false) in
-    simp c.in-default.is (narrow_constant _ _ _ free)
+pub returns-in_default : goal.returns-in_default
+returns-in_default c =
+    let free = subst (λ t. Free c.args.b.now t c.args.x) c.in_default.is (c.free.ensures.0 c.if-not-free.false) in
+    simp c.in_default.is (narrow_constant _ _ _ free)

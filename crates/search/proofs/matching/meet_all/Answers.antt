@@ -9,14 +9,14 @@ returns-in-One-One c =
     simp (w.is-0, w.is-1) (met_like _ _ c.meet.result (Meets w.s w.x) (MeetsAll (w.s ∷ []) (w.x ∷ []))
     (λ h e. (e, tt)) (λ h e. e.0) c.meet.ensures)
 
-pub returns-then-meet-two : goal.returns-then-meet-two
-returns-then-meet-two c =
+pub returns-then-meet_two : goal.returns-then-meet_two
+returns-then-meet_two c =
     let w = c.in-Three-Three in
-    simp (w.is-0, w.is-1) (met_then _ c.meet-then-meet-two.result (Meets w.u w.z) (MeetsAll (w.s ∷ w.t ∷ w.u ∷ []) (w.x ∷ w.y ∷ w.z ∷ []))
-    (λ h p q. (p.0, (p.1.0, (q, tt)))) (λ h e. ((e.0, (e.1.0, tt)), e.1.1.0)) c.if-meet-two.ensures c.meet-then-meet-two.ensures)
+    simp (w.is-0, w.is-1) (met_then _ c.meet-then-meet_two.result (Meets w.u w.z) (MeetsAll (w.s ∷ w.t ∷ w.u ∷ []) (w.x ∷ w.y ∷ w.z ∷ []))
+    (λ h p q. (p.0, (p.1.0, (q, tt)))) (λ h e. ((e.0, (e.1.0, tt)), e.1.1.0)) c.if-meet_two.ensures c.meet-then-meet_two.ensures)
 
-pub returns-then-meet-two-2 : goal.returns-then-meet-two-2
-returns-then-meet-two-2 c =
+pub returns-then-meet_two-2 : goal.returns-then-meet_two-2
+returns-then-meet_two-2 c =
     let w = c.in-Four-Four in
-    simp (w.is-0, w.is-1) (met_then _ c.meet-two-then-meet-two-2.result (MeetsAll (w.u ∷ w.v ∷ []) (w.z ∷ w.w ∷ [])) (MeetsAll (w.s ∷ w.t ∷ w.u ∷ w.v ∷ []) (w.x ∷ w.y ∷ w.z ∷ w.w ∷ []))
-    (λ h p q. (p.0, (p.1.0, q))) (λ h e. ((e.0, (e.1.0, tt)), e.1.1)) c.if-meet-two-2.ensures c.meet-two-then-meet-two-2.ensures)
+    simp (w.is-0, w.is-1) (met_then _ c.meet_two-then-meet_two-2.result (MeetsAll (w.u ∷ w.v ∷ []) (w.z ∷ w.w ∷ [])) (MeetsAll (w.s ∷ w.t ∷ w.u ∷ w.v ∷ []) (w.x ∷ w.y ∷ w.z ∷ w.w ∷ []))
+    (λ h p q. (p.0, (p.1.0, q))) (λ h e. ((e.0, (e.1.0, tt)), e.1.1)) c.if-meet_two-2.ensures c.meet_two-then-meet_two-2.ensures)

@@ -5,8 +5,8 @@ use Rattle.search.specs.Holding.{Holds}
 use Rattle.search.proofs.Asking.{query_fits}
 use Rattle.search.proofs.question.holds.Goals as goal
 
-pub holds-atoms-requires : goal.holds-atoms-requires
-holds-atoms-requires g c = ap variables_fit c.atoms.ensures ∙ query_fits c.args.q.now
+pub holds_atoms-requires : goal.holds_atoms-requires
+holds_atoms-requires g c = ap variables_fit c.atoms.ensures ∙ query_fits c.args.q.now
 
 pub returns : goal.returns
-returns g c = subst (λ as'. Decides c.holds-atoms.result (Holds (map query_atom as') (g.G.Source.facts c.args.s.now))) c.atoms.ensures c.holds-atoms.ensures
+returns g c = subst (λ as'. Decides c.holds_atoms.result (Holds (map query_atom as') (g.G.Source.facts c.args.s.now))) c.atoms.ensures c.holds_atoms.ensures
