@@ -4,7 +4,7 @@ use Rattle.std.proofs.lemmas.List.{map_push, take_all, take_more}
 use Rattle.std.proofs.lemmas.Option.{slice_get-get_or}
 use Rattle.notation.specs.Logic.{at, fact_atom}
 use Rattle.index.proofs.index.build.collect.Goals as goal
-use Rattle.index.proofs.index.build.collect.Goals.{in-Some+in-ok-push, in-default}
+use Rattle.index.proofs.index.build.collect.Goals.{in-Some+in_ok-push, in_default}
 
 pub loop-k-preserved : goal.loop-k-preserved
 loop-k-preserved g c =
@@ -15,8 +15,8 @@ loop-k-preserved g c =
     let there = slice_get-get_or facts k (at 0 []) within in
     let more = take_more facts k (at 0 []) within in
     elim c.match-fact.branch [
-      | in-Some+in-ok-push w ↦ let push = map_push fact_atom (vec_items c.loop-k.v) w.in-Some.f in cc (w.in-ok-push.ensures.items, w.in-Some.ensures)
-      | in-default w ↦ cc w.in-default.ensures
+      | in-Some+in_ok-push w ↦ let push = map_push fact_atom (vec_items c.loop-k.v) w.in-Some.f in cc (w.in_ok-push.ensures.items, w.in-Some.ensures)
+      | in_default w ↦ cc w.in_default.ensures
     ]
 
 pub returns : goal.returns

@@ -7,4 +7,4 @@ use Rattle.index.proofs.index.guide.settled.Goals as goal
 pub bounds-b-v : goal.bounds-b-v
 bounds-b-v c =
     let v = c.in-Variable.v in
-    ltb-true v 32 (fits_at c.args.ts.now c.args.at (Variable v) c.requires (sym c.in-ok-k.ensures ∙ ap Some c.in-Variable.is))
+    ltb-true v 32 (fits_at c.args.ts.now c.args.at (Variable v) c.requires (sym c.in_ok-k.ensures ∙ ap Some c.in-Variable.is))
