@@ -11,7 +11,7 @@ use Rattle.book.proofs.ledger.Ledger.of_parts.Goals as goal
 pub loop-q-preserved : goal.loop-q-preserved
 loop-q-preserved c =
     let inv = c.loop-q.invariant in
-    let e = c.in-ok-push.ensures in
+    let e = c.in_ok-push.ensures in
     let i = c.loop-q.q-index in
     let q = c.q-item.result in
     let m = map_more atoms_of c.args.queries.now i q c.loop-q-test.true in
@@ -21,12 +21,12 @@ loop-q-preserved c =
 entered : (t : Table) (qs : List Query) (i : ℕ) → length qs ≤ i → queries_in t ≡ map atoms_of (take i qs) → queries_in t ≡ map atoms_of qs
 entered t qs i h is = is ∙ ap (map atoms_of) (take_all i qs h)
 
-pub invariant-of-result : goal.invariant-of-result
-invariant-of-result c =
+pub invariant_of-result : goal.invariant_of-result
+invariant_of-result c =
     let qs = c.args.queries.now in
     let all = entered c.loop-q.table qs _ c.loop-q-test.false c.loop-q.invariant.0 in
     let long = ap length all ∙ length-map qs atoms_of in
-    (c.requires.some, (omega (arith, long), (omega (arith, long, c.requires.few), (ap all_valid all ∙ all_queries qs, (c.requires.ruled, tt)))))
+    record { some = c.requires.some; all = omega (arith, long); few = omega (arith, long, c.requires.few); sound = ap all_valid all ∙ all_queries qs; ruled = c.requires.ruled }
 
 pub returns : goal.returns
 returns c =

@@ -11,8 +11,8 @@ returns-then-rules-gt32 c =
     let n = length-map c.args.rules.now rule_of in
     many_rules (map rule_of c.args.rules.now) (map atoms_of c.args.queries.now) (omega arith)
 
-pub returns-then-is-empty : goal.returns-then-is-empty
-returns-then-is-empty c =
+pub returns-then-is_empty : goal.returns-then-is_empty
+returns-then-is_empty c =
     let n = length-map c.args.rules.now rule_of in
     let m = length-map c.args.queries.now atoms_of in
     let none : length c.args.queries.now < 1 = search rules in
@@ -30,5 +30,5 @@ returns c =
     let m = length-map c.args.queries.now atoms_of in
     let some : 1 ≤ length c.args.queries.now = search rules in
     opened (map rule_of c.args.rules.now) (map atoms_of c.args.queries.now) (omega arith) (omega arith) (omega arith)
-    ∙ ap (λ rs. Ok (new_book (map rule_of rs) (map atoms_of c.args.queries.now))) (sym c.in-ok-held.ensures)
-    ∙ ap Ok (sym c.in-ok-ledger.ensures)
+    ∙ ap (λ rs. Ok (new_book (map rule_of rs) (map atoms_of c.args.queries.now))) (sym c.in_ok-held.ensures)
+    ∙ ap Ok (sym c.in_ok-ledger.ensures)

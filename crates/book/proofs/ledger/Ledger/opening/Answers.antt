@@ -3,7 +3,7 @@ use Rattle.std.proofs.lemmas.Bool.Decides.{not_from_Decides}
 use Rattle.book.proofs.ledger.Ledger.opening.Goals as goal
 
 pub loop-k-preserved : goal.loop-k-preserved
-loop-k-preserved g c = below_more _ _ c.loop-k.invariant (not_from_Decides _ c.holds-at.ensures c.if-holds-at.false)
+loop-k-preserved g c = below_more _ _ c.loop-k.invariant (not_from_Decides _ c.holds_at.ensures c.if-holds_at.false)
 
 pub returns : goal.returns
 returns g c = λ j h. c.loop-k.invariant j (omega arith)

@@ -7,7 +7,7 @@ use Rattle.book.proofs.table.Table.push.Goals as goal
 pub returns : goal.returns
 returns c =
     let t = c.args.self.now in
-    let items = c.in-ok-push.ensures.items in
+    let items = c.in_ok-push.ensures.items in
     let standing = λ (r : Row). r.standing in
     record {
       queries = ap (map row_atoms) items ∙ map_push row_atoms (vec_items t.list) _ ∙ ap (λ q. queries_in t ++ q ∷ []) c.array-count.ensures;
