@@ -22,13 +22,14 @@ pub(crate) fn put_event(
     match answer {
         Ok(()) => {
             let k = strike.struck;
-            write!(out, "struck={k}\n")
+            write!(out, "struck={k}\n")?;
         }
         Err(e) => {
             let (number, place) = e.number();
-            write!(out, "refused={number},{place}\n")
+            write!(out, "refused={number},{place}\n")?;
         }
     }
+    Ok(())
 }
 
 // A `stands=` and a `query=` line for each query that stands.
@@ -49,18 +50,20 @@ fn put_kept(broken: Option<usize>, out: &mut String) -> Result<(), fmt::Error>
     ensures { OnOk result (string_bytes out.new ≡ string_bytes out.old ++ print_kept broken) }
 {
     match broken {
-        Some(k) => write!(out, "{k}"),
-        None => write!(out, "kept"),
+        Some(k) => write!(out, "{k}")?,
+        None => write!(out, "kept")?,
     }
+    Ok(())
 }
 
 fn put_answer(answer: Option<usize>, out: &mut String) -> Result<(), fmt::Error>
     ensures { OnOk result (string_bytes out.new ≡ string_bytes out.old ++ print_answer answer) }
 {
     match answer {
-        Some(k) => write!(out, "{k}"),
-        None => write!(out, "none"),
+        Some(k) => write!(out, "{k}")?,
+        None => write!(out, "none")?,
     }
+    Ok(())
 }
 
 // The answers of the rule check and of the two questions.
@@ -88,5 +91,6 @@ pub(crate) fn put_fault(fault: Fault, out: &mut String) -> Result<(), fmt::Error
 {
     let (number, _) = fault.fault.graded();
     let line = fault.line;
-    write!(out, "fault={number},{line}\n")
+    write!(out, "fault={number},{line}\n")?;
+    Ok(())
 }

@@ -12,7 +12,7 @@ returns-in-Err c =
     let d = folder_of c.loop-piece.reader in
     let s = c.loop-piece.left.now in
     let line = c.in-Some.piece.now in
-    failed c.loop-piece.line c.in-Err.e _ (folder_of c.take-line.new.self) (take_line d line) _ _ c.at.ensures c.in-Err.ensures
+    failed c.loop-piece.line c.in-Err.e _ (folder_of c.take_line.new.self) (take_line d line) _ _ c.at.ensures c.in-Err.ensures
     (within c.args.text.now (omega arith) ∙ sym c.loop-piece.invariant.1 ∙ line_read d c.loop-piece.line s line c.in-Some.rest.now _ c.in-Some.ensures refl)
 
 pub loop-piece-preserved : goal.loop-piece-preserved
@@ -21,7 +21,7 @@ loop-piece-preserved c =
     let line = c.in-Some.piece.now in
     let less = cut_shorter 10 s line c.in-Some.rest.now c.in-Some.ensures in (
       omega arith,
-      sym (line_read (folder_of c.loop-piece.reader) c.loop-piece.line s line c.in-Some.rest.now _ c.in-Some.ensures c.in-default-take-line.ensures) ∙ c.loop-piece.invariant.1,
+      sym (line_read (folder_of c.loop-piece.reader) c.loop-piece.line s line c.in-Some.rest.now _ c.in-Some.ensures c.in_default-take_line.ensures) ∙ c.loop-piece.invariant.1,
     )
 
 pub returns-in-Err-finish : goal.returns-in-Err-finish
@@ -29,4 +29,4 @@ returns-in-Err-finish c =
     let d = folder_of c.loop-piece.reader in
     let s = c.loop-piece.left.now in
     failed c.loop-piece.line c.in-Err-finish.e _ d (take_end d s) _ _ c.at-in-Err-finish.ensures c.in-Err-finish.ensures
-    (within c.args.text.now (omega arith) ∙ sym c.loop-piece.invariant.1 ∙ end_read d c.loop-piece.line s _ c.in-default.ensures refl)
+    (within c.args.text.now (omega arith) ∙ sym c.loop-piece.invariant.1 ∙ end_read d c.loop-piece.line s _ c.in_default.ensures refl)

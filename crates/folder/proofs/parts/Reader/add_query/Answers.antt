@@ -7,13 +7,13 @@ use Rattle.folder.proofs.parts.Reader.add_query.Goals as goal
 pub returns-then-len-ge64 : goal.returns-then-len-ge64
 returns-then-len-ge64 c = let n = c.len.ensures in too_many c.args.self.now c.args.atoms.now (omega arith)
 
-pub returns-in-err-q : goal.returns-in-err-q
-returns-in-err-q c =
+pub returns-in_err-q : goal.returns-in_err-q
+returns-in_err-q c =
     let n = c.len.ensures in
-    let p = err_from_is_err_and c.from-residual.result c.from-residual.ensures.1 in
-    rw (p.1, p.2) (wrong_query c.args.self.now c.args.atoms.now _ (omega arith) (c.in-err-q.ensures ∙ ap (λ ns. make_query ns c.args.atoms.now) c.deref.ensures.value))
+    let p = err_from_is_err_and c.from_residual.result c.from_residual.ensures.1 in
+    rw (p.1, p.2) (wrong_query c.args.self.now c.args.atoms.now _ (omega arith) (c.in_err-q.ensures ∙ ap (λ ns. make_query ns c.args.atoms.now) c.deref.ensures.value))
 
 pub returns : goal.returns
 returns c =
     let n = c.len.ensures in
-    right_query c.args.self.now c.args.atoms.now c.in-ok-q.q (vec_items c.push.new.self) (omega arith) (c.in-ok-q.ensures ∙ ap (λ ns. make_query ns c.args.atoms.now) c.deref.ensures.value) c.in-ok-push.ensures.items
+    right_query c.args.self.now c.args.atoms.now c.in_ok-q.q (vec_items c.push.new.self) (omega arith) (c.in_ok-q.ensures ∙ ap (λ ns. make_query ns c.args.atoms.now) c.deref.ensures.value) c.in_ok-push.ensures.items

@@ -7,4 +7,4 @@ pub returns : goal.returns
 returns c =
     let d = folder_of c.args.self.now in
     ap (λ xs. Ok (record { last = d.last; arities = d.arities; draft = d.draft; rules = d.rules; queries = d.queries; pending = d.pending; strikes = xs; facts = d.facts }))
-    (struck_by c.args.self.now c.args.by _ (vec_items c.push.new.self) refl c.in-ok-push.ensures.items)
+    (struck_by c.args.self.now c.args.by _ (vec_items c.push.new.self) refl c.in_ok-push.ensures.items)
