@@ -182,16 +182,16 @@ module _ (s : Ledger) (u : Rule) (ps : List Part) (ms : List Piece) (one : OneHe
       let e1 : copy_of x ≡ 0 + r.place = copy_in_part (0 + r.place) u.body r.head r.query r.part x c (subst (λ v. In x (part_terms (bare v))) r.is i) in
       let e2 : copy_of x ≡ 0 + w.place = copy_in_part (0 + w.place) u.body w.head w.query w.part x c (subst (λ v. In x (part_terms (bare v))) w.is j) in
       let e : r.place ≡ w.place = omega arith in
-      one_of (sym r.is_piece ∙ ap (λ k. nth k ms) e ∙ w.is-piece)
+      one_of (sym r.is_piece ∙ ap (λ k. nth k ms) e ∙ w.is_piece)
 
   one_head_of : (p o : Piece) → In p ms → In o ms → (z : ℕ) → In z p.unnamed → In (own z) (part_terms (bare o)) → p ≡ o
   one_head_of p o m n z i j = let r = read_at rs p m in let w = read_at rs o n in let b = u.body in
       let i2 : In z (unnamed_of b r.head) = subst (λ (v : Piece). In z v.unnamed) r.is i in
-      let e : r.place ≡ w.place = one r.place w.place r.head w.head r.is_head w.is-head z
+      let e : r.place ≡ w.place = one r.place w.place r.head w.head r.is_head w.is_head z
       (of_vars (terms r.head) (dropped_in (vars (terms b)) (vars (terms r.head)) z i2))
       (λ h. dropped_off (vars (terms b)) (vars (terms r.head)) z i2 (in_member (in_vars (terms b) h)))
       (own_in_part (0 + w.place) b w.head w.query w.part z (subst (λ v. In (own z) (part_terms (bare v))) w.is j)) in
-      one_of (sym r.is_piece ∙ ap (λ k. nth k ms) e ∙ w.is-piece)
+      one_of (sym r.is_piece ∙ ap (λ k. nth k ms) e ∙ w.is_piece)
 
   bare_apart : Apart (map bare ms)
   bare_apart = record {

@@ -20,7 +20,7 @@ fn as_stored(rt: &HostRuntime, name: &str) -> io::Result<bool> {
             out.truncate(n);
             Ok(out.as_slice() == want.as_slice())
         }
-        Err(Unprinted::Short) => Ok(want.as_slice() == b"fault=22,0\n"),
+        Err(Unprinted::Short) => Ok(want.as_slice() == b"fault=22,0\n".as_slice()),
         Err(Unprinted::Memory) => Err(io::Error::from(io::ErrorKind::OutOfMemory)),
     }
 }

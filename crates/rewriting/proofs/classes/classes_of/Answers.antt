@@ -12,8 +12,8 @@ loop-j-init c =
     let parts = c.args.parts.now in
     (omega arith, omega arith, subst (λ l. Names c.apart-table.result (name_in (classes (ties_from (length parts) (map part_of l))))) (sym (drop_all (length parts) parts (omega arith))) (names_apart _ c.apart-table.ensures))
 
-pub join-part-joined-requires : goal.join-part-joined-requires
-join-part-joined-requires c =
+pub join_part-joined-requires : goal.join_part-joined-requires
+join_part-joined-requires c =
     subst (λ l. TiesWithin (written_ties (c.loop-j.j - 1) l)) (sym c.deref.ensures.value)
     (ties_of_part c.args.parts.now (c.loop-j.j - 1) c.index-parts-j.result (omega arith) c.requires)
 
@@ -25,9 +25,9 @@ loop-j-preserved c =
     let more = ties_at parts (j - 1) j c.index-parts-j.result (omega arith) (omega arith) in (
       omega arith,
       omega arith,
-      subst (λ l. Names c.join-part-joined.result (name_in (classes l))) (sym more)
-          (subst (λ l. Names c.join-part-joined.result (name_in (classes (written_ties (j - 1) l ++ later)))) c.deref.ensures.value
-          (c.join-part-joined.ensures later c.loop-j.invariant.2)),
+      subst (λ l. Names c.join_part-joined.result (name_in (classes l))) (sym more)
+          (subst (λ l. Names c.join_part-joined.result (name_in (classes (written_ties (j - 1) l ++ later)))) c.deref.ensures.value
+          (c.join_part-joined.ensures later c.loop-j.invariant.2)),
     )
 
 pub returns : goal.returns

@@ -16,11 +16,11 @@ loop-j-init c =
     let ties = c.args.ties.now in
     (omega arith, omega arith, λ ts n. subst (λ l. Names c.args.table (name_in (classes (written_ties c.args.i l ++ ts)))) (sym (drop_all (length ties) ties (omega arith))) n)
 
-pub end-place-requires : goal.end-place-requires
-end-place-requires c = (tie_within c.args.i (c.loop-j.j - 1) c.args.ties.now no_tie c.requires (omega arith)).0
+pub end_place-requires : goal.end_place-requires
+end_place-requires c = (tie_within c.args.i (c.loop-j.j - 1) c.args.ties.now no_tie c.requires (omega arith)).0
 
-pub end-place-requires-in-loop-j : goal.end-place-requires-in-loop-j
-end-place-requires-in-loop-j c = (tie_within c.args.i (c.loop-j.j - 1) c.args.ties.now no_tie c.requires (omega arith)).1
+pub end_place-requires-in-loop-j : goal.end_place-requires-in-loop-j
+end_place-requires-in-loop-j c = (tie_within c.args.i (c.loop-j.j - 1) c.args.ties.now no_tie c.requires (omega arith)).1
 
 pub loop-j-preserved : goal.loop-j-preserved
 loop-j-preserved c =
@@ -34,7 +34,7 @@ loop-j-preserved c =
     let inside : j < length ties = omega arith in
     let w = tie_within i j ties no_tie c.requires inside in
     let is : c.join-joined.result ≡ joined_table t (place x) (place y) =
-    c.join-joined.ensures ∙ ap (λ a. joined_table t a c.end-place-in-loop-j.result) c.end-place.ensures.value ∙ ap (λ b. joined_table t (place x) b) c.end-place-in-loop-j.ensures.value in
+    c.join-joined.ensures ∙ ap (λ a. joined_table t a c.end_place-in-loop-j.result) c.end_place.ensures.value ∙ ap (λ b. joined_table t (place x) b) c.end_place-in-loop-j.ensures.value in
     let more : drop j ties ≡ tie ∷ drop c.loop-j.j ties = drop_more ties j no_tie inside ∙ ap (λ k. tie ∷ drop k ties) (omega arith) in (
       omega arith,
       omega arith,

@@ -16,21 +16,21 @@ use Rattle.rewriting.proofs.judge.first_differing.Goals as goal
 pub loop-i-init : goal.loop-i-init
 loop-i-init c f b n = refl
 
-pub sets-meet-requires : goal.sets-meet-requires
-sets-meet-requires c = record {
+pub sets_meet-requires : goal.sets_meet-requires
+sets_meet-requires c = record {
   part = omega (arith, c.requires.parts);
-  head = c.head-at.ensures.fits;
-  query = ap all_fit c.atoms-at.ensures ∙ row_fits c.args.rows.now c.index-parts-i.result.query c.requires.rows;
+  head = c.head_at.ensures.fits;
+  query = ap all_fit c.atoms_at.ensures ∙ row_fits c.args.rows.now c.index-parts-i.result.query c.requires.rows;
 }
 
-pub returns-then-not-sets-meet : goal.returns-then-not-sets-meet
-returns-then-not-sets-meet c f b n =
+pub returns-then-not-sets_meet : goal.returns-then-not-sets_meet
+returns-then-not-sets_meet c f b n =
     let u = c.args.rule.now in
     let w = c.index-parts-i.result in
     let m = length-map c.args.parts.now part_of in
     fail_more (sets_meet f) b c.args.rows.now (rule_meant u).heads (map part_of c.args.parts.now) c.loop-i.i _ (part_of w) false
-    (omega (arith, c.requires.heads)) (omega arith) (ap logic_atoms c.head-at.ensures.value ∙ head_is (heads_of u) c.loop-i.i) (part_is c.args.parts.now c.loop-i.i w (omega arith) c.index-parts-i.is)
-    (c.if-not-sets-meet.ensures f b n ∙ ap (λ (qu : List (WrittenAtom WrittenTerm)). sets_meet f (piece c.loop-i.i b (logic_atoms c.head-at.result.now) (logic_atoms qu) (part_of w))) c.atoms-at.ensures)
+    (omega (arith, c.requires.heads)) (omega arith) (ap logic_atoms c.head_at.ensures.value ∙ head_is (heads_of u) c.loop-i.i) (part_is c.args.parts.now c.loop-i.i w (omega arith) c.index-parts-i.is)
+    (c.if-not-sets_meet.ensures f b n ∙ ap (λ (qu : List (WrittenAtom WrittenTerm)). sets_meet f (piece c.loop-i.i b (logic_atoms c.head_at.result.now) (logic_atoms qu) (part_of w))) c.atoms_at.ensures)
     ∙ c.loop-i.invariant f b n
 
 pub loop-i-preserved : goal.loop-i-preserved
@@ -39,8 +39,8 @@ loop-i-preserved c f b n =
     let w = c.index-parts-i.result in
     let m = length-map c.args.parts.now part_of in
     fail_more (sets_meet f) b c.args.rows.now (rule_meant u).heads (map part_of c.args.parts.now) c.loop-i.i _ (part_of w) true
-    (omega (arith, c.requires.heads)) (omega arith) (ap logic_atoms c.head-at.ensures.value ∙ head_is (heads_of u) c.loop-i.i) (part_is c.args.parts.now c.loop-i.i w (omega arith) c.index-parts-i.is)
-    (c.if-not-sets-meet.ensures f b n ∙ ap (λ (qu : List (WrittenAtom WrittenTerm)). sets_meet f (piece c.loop-i.i b (logic_atoms c.head-at.result.now) (logic_atoms qu) (part_of w))) c.atoms-at.ensures)
+    (omega (arith, c.requires.heads)) (omega arith) (ap logic_atoms c.head_at.ensures.value ∙ head_is (heads_of u) c.loop-i.i) (part_is c.args.parts.now c.loop-i.i w (omega arith) c.index-parts-i.is)
+    (c.if-not-sets_meet.ensures f b n ∙ ap (λ (qu : List (WrittenAtom WrittenTerm)). sets_meet f (piece c.loop-i.i b (logic_atoms c.head_at.result.now) (logic_atoms qu) (part_of w))) c.atoms_at.ensures)
     ∙ c.loop-i.invariant f b n
 
 pub returns : goal.returns

@@ -26,12 +26,12 @@ returns-then-heads-parts c s sh =
     let n = heads_count u in
     let k = ap length c.heads.ensures in
     let m = length-map (vec_items c.args.step.now.parts) part_of in
-    let v = ap length c.as-slice-parts.ensures.value in
+    let v = ap length c.as_slice-parts.ensures.value in
     heads_differ c.args.rules.now c.args.rows.now s (step_of c.args.step.now) u sh (omega arith) c.index-rules-step.is
     (λ e. c.if-heads-parts.true (omega arith))
 
-pub read-parts-requires : goal.read-parts-requires
-read-parts-requires c =
+pub read_parts-requires : goal.read_parts-requires
+read_parts-requires c =
     let u = c.index-rules-step.result in
     let n = heads_count u in
     let k = ap length c.heads.ensures in
@@ -39,18 +39,18 @@ read-parts-requires c =
     let w = u.within in
     record { rows = c.requires; heads = omega arith; parts = omega arith }
 
-pub returns-in-err-read-parts : goal.returns-in-err-read-parts
-returns-in-err-read-parts c s sh =
-    let p = err_from_is_err_and c.from-residual.result c.from-residual.ensures.1 in
+pub returns-in_err-read_parts : goal.returns-in_err-read_parts
+returns-in_err-read_parts c s sh =
+    let p = err_from_is_err_and c.from_residual.result c.from_residual.ensures.1 in
     let u = c.index-rules-step.result in
     let n = heads_count u in
     let k = ap length c.heads.ensures in
     let m = length-map (vec_items c.args.step.now.parts) part_of in
-    let v = ap length c.as-slice-parts.ensures.value in
+    let v = ap length c.as_slice-parts.ensures.value in
     rw (p.1, p.2)
     (heads_same c.args.rules.now c.args.rows.now s (step_of c.args.step.now) u sh (omega arith) c.index-rules-step.is (omega arith) _
-    (ap (λ (ws : List WrittenPart). pieces s (rule_meant u).body 0 (rule_meant u).heads (map part_of ws)) (sym c.as-slice-parts.ensures.value)
-    ∙ c.in-err-read-parts.ensures.read s (rule_meant u).body sh.stand))
+    (ap (λ (ws : List WrittenPart). pieces s (rule_meant u).body 0 (rule_meant u).heads (map part_of ws)) (sym c.as_slice-parts.ensures.value)
+    ∙ c.in_err-read_parts.ensures.read s (rule_meant u).body sh.stand))
 
 pub tested-requires : goal.tested-requires
 tested-requires c =
@@ -59,7 +59,7 @@ tested-requires c =
     let k = ap length c.heads.ensures in
     let l = length-take u.count u.heads in
     let w = u.within in
-    record { rows = c.requires; heads = omega arith; parts = omega arith; ties = c.in-ok-read-parts.ensures.ties refl }
+    record { rows = c.requires; heads = omega arith; parts = omega arith; ties = c.in_ok-read_parts.ensures.ties refl }
 
 pub returns : goal.returns
 returns c s sh =
@@ -67,10 +67,10 @@ returns c s sh =
     let n = heads_count u in
     let k = ap length c.heads.ensures in
     let m = length-map (vec_items c.args.step.now.parts) part_of in
-    let v = ap length c.as-slice-parts.ensures.value in
+    let v = ap length c.as_slice-parts.ensures.value in
     let b = (rule_meant u).body in
     c.tested.ensures s sh.count
     ∙ heads_same c.args.rules.now c.args.rows.now s (step_of c.args.step.now) u sh (omega arith) c.index-rules-step.is (omega arith)
-    (read (pieces_from b c.args.rows.now 0 (rule_meant u).heads (map part_of c.as-slice-parts.result.now)))
-    (ap (λ (ws : List WrittenPart). pieces s b 0 (rule_meant u).heads (map part_of ws)) (sym c.as-slice-parts.ensures.value)
-    ∙ c.in-ok-read-parts.ensures.read s b sh.stand)
+    (read (pieces_from b c.args.rows.now 0 (rule_meant u).heads (map part_of c.as_slice-parts.result.now)))
+    (ap (λ (ws : List WrittenPart). pieces s b 0 (rule_meant u).heads (map part_of ws)) (sym c.as_slice-parts.ensures.value)
+    ∙ c.in_ok-read_parts.ensures.read s b sh.stand)

@@ -14,22 +14,22 @@ loop-j-preserved-then-not-listed c f n =
     (sym (side_skip f c.args.other c.args.numbers.now c.args.atoms.now c.loop-j.j no_atom (omega arith) (sym c.if-not-listed.ensures)))
     ∙ c.loop-j.invariant f n
 
-pub become-same-requires : goal.become-same-requires
-become-same-requires c = record {
+pub become_same-requires : goal.become_same-requires
+become_same-requires c = record {
   fits = c.requires.fits;
-  other-fits = fits_at c.args.atoms.now c.loop-j.j no_atom c.requires.other-fits (omega arith);
+  other_fits = fits_at c.args.atoms.now c.loop-j.j no_atom c.requires.other_fits (omega arith);
   owned = c.requires.owned;
-  other-owned = c.requires.other-owned;
+  other_owned = c.requires.other_owned;
 }
 
-pub returns-then-become-same : goal.returns-then-become-same
-returns-then-become-same c f n =
-    sym (any_side f (same_atom same_ref (rename f (rename (ref_of c.args.owner) (query_atom c.args.a)))) c.args.other c.args.numbers.now c.args.atoms.now c.loop-j.j no_atom true (omega arith) (sym c.if-not-listed.ensures) (c.if-become-same.ensures f n))
+pub returns-then-become_same : goal.returns-then-become_same
+returns-then-become_same c f n =
+    sym (any_side f (same_atom same_ref (rename f (rename (ref_of c.args.owner) (query_atom c.args.a)))) c.args.other c.args.numbers.now c.args.atoms.now c.loop-j.j no_atom true (omega arith) (sym c.if-not-listed.ensures) (c.if-become_same.ensures f n))
     ∙ c.loop-j.invariant f n
 
 pub loop-j-preserved : goal.loop-j-preserved
 loop-j-preserved c f n =
-    sym (any_side f (same_atom same_ref (rename f (rename (ref_of c.args.owner) (query_atom c.args.a)))) c.args.other c.args.numbers.now c.args.atoms.now c.loop-j.j no_atom false (omega arith) (sym c.if-not-listed.ensures) (c.if-become-same.ensures f n))
+    sym (any_side f (same_atom same_ref (rename f (rename (ref_of c.args.owner) (query_atom c.args.a)))) c.args.other c.args.numbers.now c.args.atoms.now c.loop-j.j no_atom false (omega arith) (sym c.if-not-listed.ensures) (c.if-become_same.ensures f n))
     ∙ c.loop-j.invariant f n
 
 pub returns : goal.returns

@@ -25,5 +25,5 @@ loop-n-preserved c =
 pub returns : goal.returns
 returns c =
     let ns = c.args.numbers.now in
-    fit_is c.args.count ns c.is-empty.result c.is-empty.ensures
+    fit_is c.args.count ns c.is_empty.result c.is_empty.ensures
     (sym c.loop-n.invariant ∙ at_drop_all (rising c.loop-n.low c.args.count) ns c.loop-n.n-index (omega arith))

@@ -12,14 +12,14 @@ loop-j-preserved-then-not-listed c =
     ap (has_ref (end c.args.i (end_of c.args.e))) (sym (skip c.args.owner c.args.numbers.now c.args.atoms.now c.loop-j.j no_atom (omega arith) (sym c.if-not-listed.ensures)))
     ∙ c.loop-j.invariant
 
-pub returns-then-is-one : goal.returns-then-is-one
-returns-then-is-one c =
-    sym (any_term (same_ref (end c.args.i (end_of c.args.e))) c.args.owner c.args.numbers.now c.args.atoms.now c.loop-j.j no_atom true (omega arith) (sym c.if-not-listed.ensures) c.if-is-one.ensures)
+pub returns-then-is_one : goal.returns-then-is_one
+returns-then-is_one c =
+    sym (any_term (same_ref (end c.args.i (end_of c.args.e))) c.args.owner c.args.numbers.now c.args.atoms.now c.loop-j.j no_atom true (omega arith) (sym c.if-not-listed.ensures) c.if-is_one.ensures)
     ∙ c.loop-j.invariant
 
 pub loop-j-preserved : goal.loop-j-preserved
 loop-j-preserved c =
-    sym (any_term (same_ref (end c.args.i (end_of c.args.e))) c.args.owner c.args.numbers.now c.args.atoms.now c.loop-j.j no_atom false (omega arith) (sym c.if-not-listed.ensures) c.if-is-one.ensures)
+    sym (any_term (same_ref (end c.args.i (end_of c.args.e))) c.args.owner c.args.numbers.now c.args.atoms.now c.loop-j.j no_atom false (omega arith) (sym c.if-not-listed.ensures) c.if-is_one.ensures)
     ∙ c.loop-j.invariant
 
 pub returns : goal.returns

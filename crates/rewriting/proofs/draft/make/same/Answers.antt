@@ -1,10 +1,11 @@
-use Rattle.std.proofs.Common.{◌≡◌, Decides, rules}
-use Rattle.std.proofs.lemmas.Bool.Decides.{same_from_decides}
+use Rattle.std.proofs.lemmas.Bool.Decides.{same_from_decides, Decides-at}
+use Rattle.notation.proofs.Equal.{query_atom_equal}
 use Rattle.queries.specs.Checks.{same_atom}
 use Rattle.queries.proofs.Same.{same_atom_decides}
 use Rattle.rewriting.proofs.draft.make.same.Goals as goal
 
 pub returns : goal.returns
 returns c =
-    let h : Decides c.eq.result (c.args.a ≡ c.args.b) = search rules in
-    same_from_decides _ (same_atom c.args.a c.args.b) h (same_atom_decides c.args.a c.args.b)
+    let a = c.args.a in
+    let b = c.args.b in
+    same_from_decides _ (same_atom a b) (Decides-at _ _ c.eq.ensures (query_atom_equal a b)) (same_atom_decides a b)
