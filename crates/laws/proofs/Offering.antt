@@ -363,7 +363,7 @@ module _ (nm mv : Ref → Ref) (ps : List Piece) (os : List Unified) (P : ℕ �
       let r = of_map bare ps z.1 in
       more_linked (λ t k. of_tie ps r.0 r.1 k) ((tied r.0 r.1).links (mv x) (mv y)
       (subst (λ v. In (mv x) (part_terms v)) r.2 (part_back nm mv z.0 o c x i)) (subst (λ v. In (mv y) (part_terms v)) r.2 (part_back nm mv z.0 o c y j))
-      (subst (λ k. P k (nm (mv x)) ≡ P k (nm (mv y))) (sym c.head-same ∙ ap (λ (v : Unified). v.head) r.2) (ap (P o.head) (c.back-there x (inl i)) ∙ e ∙ ap (P o.head) (sym (c.back-there y (inl j))))))
+      (subst (λ k. P k (nm (mv x)) ≡ P k (nm (mv y))) (sym c.head_same ∙ ap (λ (v : Unified). v.head) r.2) (ap (P o.head) (c.back_there x (inl i)) ∙ e ∙ ap (P o.head) (sym (c.back_there y (inl j))))))
   to_linked itself = Linked.itself
   to_linked (back h) = Linked.back (to_linked h)
   to_linked (via h k) = Linked.via (to_linked h) (to_linked k)

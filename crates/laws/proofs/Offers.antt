@@ -187,7 +187,7 @@ zip_back {nm} {mv} (both {p = p} c z) o m = ⊎_elim
     (in_cases m)
 
 pub part_to : (nm mv : Ref → Ref) (p o : Unified) → Match nm mv p o → (x : Ref) → In x (part_terms p) → In (nm x) (part_terms o)
-part_to nm mv p o c x m = ⊎_elim (λ k. in_left (terms o.named) (moved_occurs nm p.taken o.taken c.taken-to x k)) (λ k. in_right (terms o.taken) (moved_occurs nm p.named o.named c.named-to x k)) (in_either (terms p.taken) m)
+part_to nm mv p o c x m = ⊎_elim (λ k. in_left (terms o.named) (moved_occurs nm p.taken o.taken c.taken_to x k)) (λ k. in_right (terms o.taken) (moved_occurs nm p.named o.named c.named_to x k)) (in_either (terms p.taken) m)
 
 pub part_back : (nm mv : Ref → Ref) (p o : Unified) → Match nm mv p o → (x : Ref) → In x (part_terms o) → In (mv x) (part_terms p)
 part_back nm mv p o c x m = ⊎_elim (λ k. in_left (terms p.named) (moved_occurs mv o.taken p.taken c.taken_back x k)) (λ k. in_right (terms p.taken) (moved_occurs mv o.named p.named c.named_back x k)) (in_either (terms o.taken) m)
@@ -215,7 +215,7 @@ module _ (nm mv : Ref → Ref) (nf : (k : ℕ) → nm (fixed k) ≡ fixed k) (no
       let z = zip_back zip o m in
       let c = z.2 in
       within z.0 z.1 (part_back nm mv z.0 o c x i) (part_back nm mv z.0 o c y j)
-      (subst (λ q. P q (nm (mv x)) ≡ P q (nm (mv y))) (sym c.head-same) (ap (P o.head) (c.back-there x (inl i)) ∙ e ∙ ap (P o.head) (sym (c.back-there y (inl j)))))
+      (subst (λ q. P q (nm (mv x)) ≡ P q (nm (mv y))) (sym c.head_same) (ap (P o.head) (c.back_there x (inl i)) ∙ e ∙ ap (P o.head) (sym (c.back_there y (inl j)))))
   joined_back itself = itself
   joined_back (back h) = back (joined_back h)
   joined_back (via h k) = via (joined_back h) (joined_back k)
@@ -229,24 +229,24 @@ module _ (nm mv : Ref → Ref) (nf : (k : ℕ) → nm (fixed k) ≡ fixed k) (no
       record {
         not_empty = parts.some_taken p m;
         admissible = λ k j i l e. u.admissible k j (subst (λ v. In v (part_terms o)) (nf k) (part_to nm mv p o c (fixed k) i)) (subst (λ v. In v (part_terms o)) (nf j) (part_to nm mv p o c (fixed j) l)) (ap (P o.head) (sym (nf k)) ∙ e ∙ ap (P o.head) (nf j));
-        taken_met = λ a i. let r = u.taken_met (rename nm a) (c.taken-to a i) in (
+        taken_met = λ a i. let r = u.taken_met (rename nm a) (c.taken_to a i) in (
           rename mv r.0,
           c.named_back r.0 r.1,
-          sym (rename_twice (P o.head) nm a) ∙ r.2 ∙ ap (rename (P o.head)) (sym (turned o.named r.0 (λ x k. c.back-there x (inl (in_right (terms o.taken) k))) r.1)) ∙ rename_twice (P o.head) nm (rename mv r.0),
+          sym (rename_twice (P o.head) nm a) ∙ r.2 ∙ ap (rename (P o.head)) (sym (turned o.named r.0 (λ x k. c.back_there x (inl (in_right (terms o.taken) k))) r.1)) ∙ rename_twice (P o.head) nm (rename mv r.0),
         );
-        named_met = λ a i. let r = u.named_met (rename nm a) (c.named-to a i) in (
+        named_met = λ a i. let r = u.named_met (rename nm a) (c.named_to a i) in (
           rename mv r.0,
           c.taken_back r.0 r.1,
-          sym (rename_twice (P o.head) nm a) ∙ r.2 ∙ ap (rename (P o.head)) (sym (turned o.taken r.0 (λ x k. c.back-there x (inl (in_left (terms o.named) k))) r.1)) ∙ rename_twice (P o.head) nm (rename mv r.0),
+          sym (rename_twice (P o.head) nm a) ∙ r.2 ∙ ap (rename (P o.head)) (sym (turned o.taken r.0 (λ x k. c.back_there x (inl (in_left (terms o.named) k))) r.1)) ∙ rename_twice (P o.head) nm (rename mv r.0),
         );
         existential = λ z i own_in x j e. ⊎_elim
             (λ h. inl (sym (c.there_back x (inl j)) ∙ ap mv h ∙ mo z))
             (λ h. inr (
               sym (nk x) ∙ h.0,
               subst (λ v. Occurs v p.taken) (c.there_back x (inl j)) (moved_occurs mv o.taken p.taken c.taken_back (nm x) h.1),
-              λ k. h.2 (moved_occurs nm p.rest o.rest c.rest-to x k),
+              λ k. h.2 (moved_occurs nm p.rest o.rest c.rest_to x k),
             ))
-            (u.existential z (subst (λ v. In z v) c.unnamed-same i) (subst (λ v. In v (part_terms o)) (no z) (part_to nm mv p o c (own z) own_in)) (nm x) (part_to nm mv p o c x j) (e ∙ ap (P o.head) (no z)));
+            (u.existential z (subst (λ v. In z v) c.unnamed_same i) (subst (λ v. In v (part_terms o)) (no z) (part_to nm mv p o c (own z) own_in)) (nm x) (part_to nm mv p o c x j) (e ∙ ap (P o.head) (no z)));
       }
 
   family_there : DisjunctivePieceUnifier ms P'
