@@ -1,8 +1,7 @@
 -- What the counts of rules and queries make of an opening.
-use Rattle.std.proofs.Common.{◌≡◌, ℕ, ◌+◌, ◌<◌, ◌≤◌, cond, leb, List, [], ◌∷◌, ◌++◌, length, get_or, take, Ok, Err, Result, sym, ap, ◌∙◌}
+use Rattle.std.proofs.Common.{◌≡◌, ℕ, ◌+◌, ◌<◌, ◌≤◌, List, [], ◌∷◌, ◌++◌, length, get_or, take, Ok, Err, sym, ap, ◌∙◌}
 use Rattle.std.proofs.lemmas.List.{take_more}
 use Rattle.std.proofs.lemmas.Bool.{cond-true, cond-false, le-leb, lt-leb}
-use Rattle.notation.specs.declared.faults.FolderFault.{FolderFault}
 use Rattle.notation.specs.declared.faults.FolderFault.TheVariants.{InLine, EndsTooSoon}
 use Rattle.notation.specs.declared.faults.LineFault.TheVariants.{TooMany}
 use Rattle.notation.specs.declared.terms.Atom.{Atom}

@@ -1,6 +1,6 @@
 -- What the three questions answer.
-use Rattle.std.specs.Prelude.{ℕ, List, [], map, length, Option}
-use Rattle.notation.specs.Logic.{Facts, query_atom}
+use Rattle.std.specs.Prelude.{ℕ, length, Option}
+use Rattle.notation.specs.Logic.{Facts}
 use Rattle.search.specs.Answers.{Lowest, HoldsAt}
 use Rattle.search.specs.Rules.{LowestBroken}
 use Rattle.book.specs.Strikes.{Book, Stands}

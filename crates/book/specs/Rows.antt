@@ -1,5 +1,5 @@
 -- The rows of a table: queries in the order of their numbers, and whether each stands.
-use Rattle.std.specs.Prelude.{ℕ, Bool, true, false, ◌&&◌, List, [], ◌∷◌, map, get_or, take, vec_items}
+use Rattle.std.specs.Prelude.{Bool, true, ◌&&◌, List, [], ◌∷◌, map, take, vec_items}
 use Rattle.notation.specs.declared.terms.Atom.{Atom}
 use Rattle.notation.specs.declared.terms.Term.{Term}
 use Rattle.queries.specs.Checks.{valid}

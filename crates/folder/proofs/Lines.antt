@@ -1,5 +1,5 @@
 -- A folder, one line after another.
-use Rattle.std.proofs.Common.{◌≡◌, ℕ, ◌+◌, ◌≤◌, List, [], ◌∷◌, length, Some, None, Ok, Err, Result, sym, refl, ap, ◌∙◌, subst}
+use Rattle.std.proofs.Common.{◌≡◌, ℕ, ◌+◌, ◌≤◌, List, length, Some, None, Ok, Err, Result, sym, ap, ◌∙◌, subst}
 use Rattle.std.proofs.lemmas.Bool.{cond-true, le-leb}
 use Rattle.notation.specs.declared.failures.Failure.{Failure}
 use Rattle.notation.specs.declared.failures.Failure.TheVariants as failure

@@ -1,5 +1,5 @@
 -- What a line says, by the grammar of its key.
-use Rattle.std.specs.Prelude.{ℕ, List, Ok, Err, vec_items, Result}
+use Rattle.std.specs.Prelude.{ℕ, List, Ok, vec_items, Result}
 use Rattle.notation.specs.declared.faults.LineFault.{LineFault}
 use Rattle.notation.specs.declared.lines.Key.{Key}
 use Rattle.notation.specs.declared.lines.Key.TheVariants as key

@@ -1,7 +1,7 @@
 -- Published derivations are entered.
 use mathlib.Core.Path.{◌≡◌, refl, sym, ap, subst, ◌∙◌}
 use mathlib.Core.List.{List, [], map}
-use mathlib.Core.Logic.{◌⊎◌, ⊎_elim}
+use mathlib.Core.Logic.{⊎_elim}
 use Prim.Native.Nat.{ℕ}
 use Rattle.notation.specs.Logic.{In}
 use Rattle.search.specs.Keeping.{Rule}

@@ -1,11 +1,11 @@
 -- What is printed is read back.
-use Rattle.std.proofs.Common.{◌≡◌, ℕ, ◌+◌, ◌-◌, ◌*◌, ◌/◌, ◌%◌, ◌^◌, ◌<◌, ◌≤◌, Bool, true, false, cond, ◌&&◌, List, [], ◌∷◌, ◌++◌, Some, Ok, Err, decimal, Result, sym, refl, ap, ◌∙◌, append_assoc, append-nil, arith}
+use Rattle.std.proofs.Common.{◌≡◌, ℕ, ◌+◌, ◌*◌, ◌/◌, ◌%◌, ◌<◌, ◌≤◌, Bool, true, false, List, [], ◌∷◌, ◌++◌, Some, Ok, Err, decimal, Result, sym, refl, ap, ◌∙◌, append_assoc, arith}
 use Rattle.std.proofs.lemmas.Fmt.{decimal_by_steps}
 use Rattle.std.proofs.lemmas.Bool.{le-leb, cond-true, cond-false, ltb-true, and_parts}
 use Rattle.std.proofs.lemmas.Bool.Decides.{nat_tests}
 use Rattle.notation.specs.declared.faults.TermFault.{TermFault}
 use Rattle.notation.specs.declared.faults.AtomFault.{AtomFault}
-use Rattle.notation.specs.declared.faults.AtomFault.TheVariants.{InTerm, Broken}
+use Rattle.notation.specs.declared.faults.AtomFault.TheVariants.{InTerm}
 use Rattle.notation.specs.declared.terms.Term.{Term}
 use Rattle.notation.specs.declared.terms.Term.TheVariants as term
 use Rattle.notation.specs.declared.terms.Value.{Value}
@@ -14,11 +14,10 @@ use Rattle.notation.specs.declared.terms.Terms.{Terms}
 use Rattle.notation.specs.declared.terms.Terms.TheVariants.{One, Two, Three, Four}
 use Rattle.notation.specs.declared.terms.Atom.{Atom}
 use Rattle.notation.specs.declared.words.After.{After}
-use Rattle.notation.specs.declared.words.After.TheVariants.{Comma, Bracket}
 use Rattle.notation.specs.Fits.{term_fits, value_fits, terms_fit, atom_fits}
 use Rattle.notation.specs.Numbers.{starts_digit, starts_number, scan, up_to, read_number}
 use Rattle.notation.specs.Printing.{print_term, print_value, print_terms, print_atom}
-use Rattle.notation.specs.Reading.{carry, coded, term_of, value_of, read_word, read_after, read_item, by_after, then_item, read_terms, read_byte, read_predicate, read_atom}
+use Rattle.notation.specs.Reading.{carry, coded, term_of, value_of, read_word, read_after, by_after, then_item, read_terms, read_byte, read_predicate, read_atom}
 use Rattle.notation.specs.Laws.{TermsReadBack, AtomsReadBack, AtomsPrintApart}
 use Rattle.notation.proofs.Fronts.{is_digit}
 

@@ -1,5 +1,5 @@
 -- Terms and atoms are equal by the code's test exactly where they are the same.
-use Rattle.std.proofs.Common.{◌≡◌, ◌==◌, Bool, true, false, ◌&&◌, Decides, refl, ap}
+use Rattle.std.proofs.Common.{◌≡◌, ◌==◌, Bool, ◌&&◌, Decides, ap}
 use Rattle.std.proofs.lemmas.Bool.{eqb-true, eq-eqb, and_parts, and_from, false≢true}
 use Rattle.std.proofs.lemmas.Bool.Decides.{Decides-eqb}
 use Rattle.std.specs.declared.cmp.PartialEq.{Ghosts}
@@ -51,8 +51,8 @@ module _ (T : RattleType) (g : Ghosts T.Denot) (d : Dict) (same : (t u : T.Denot
   pub atom_equal : (a b : Atom T.Denot) → Decides ((atom_eq.ghosts T g d).eq a b) (a ≡ b)
   atom_equal a b =
       alike _ (both (a.predicate == b.predicate) _ (Decides-eqb a.predicate b.predicate) (terms_equal a.terms b.terms))
-        (λ h i. record { predicate = h.0 i; terms = h.1 i })
-        (λ e. (ap (λ (x : Atom T.Denot). x.predicate) e, ap (λ (x : Atom T.Denot). x.terms) e))
+      (λ h i. record { predicate = h.0 i; terms = h.1 i })
+      (λ e. (ap (λ (x : Atom T.Denot). x.predicate) e, ap (λ (x : Atom T.Denot). x.terms) e))
 
 -- the test of two atoms of queries and rules
 pub query_atom_equal : (a b : Atom Term) → Decides ((atom_eq.ghosts the_row term_eq.ghosts term_eq.dict).eq a b) (a ≡ b)

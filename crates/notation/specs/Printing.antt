@@ -1,5 +1,5 @@
 -- What is printed of terms and atoms.
-use Rattle.std.specs.Prelude.{ℕ, List, [], ◌∷◌, ◌++◌, Some, None, decimal, Option}
+use Rattle.std.specs.Prelude.{ℕ, List, [], ◌∷◌, ◌++◌, Some, decimal, Option}
 use Rattle.std.specs.Fmt.{option_append}
 use Rattle.notation.specs.declared.terms.Term.{Term}
 use Rattle.notation.specs.declared.terms.Term.TheVariants as term

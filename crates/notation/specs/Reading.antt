@@ -1,5 +1,5 @@
 -- How terms and atoms are read.
-use Rattle.std.specs.Prelude.{ℕ, ◌+◌, ◌-◌, Bool, true, false, cond, List, [], ◌∷◌, Some, None, Ok, Err, Option, Result, ◌==◌, nat_lt}
+use Rattle.std.specs.Prelude.{ℕ, ◌+◌, ◌-◌, cond, List, [], ◌∷◌, Some, None, Ok, Err, Option, Result, ◌==◌, nat_lt}
 use Rattle.std.specs.Borrow.{Bor}
 use Rattle.notation.specs.declared.faults.TermFault.{TermFault}
 use Rattle.notation.specs.declared.faults.TermFault.TheVariants.{NoTerm, BadNumber}

@@ -1,17 +1,16 @@
 -- What is printed of a query is read back.
-use Rattle.std.proofs.Common.{◌≡◌, Bool, true, false, ◌&&◌, List, [], ◌∷◌, ◌++◌, Ok, Err, codes, Result, sym, refl, ap, ◌∙◌, inr, append-nil, arith}
+use Rattle.std.proofs.Common.{◌≡◌, true, List, [], ◌∷◌, ◌++◌, Ok, Err, Result, sym, refl, ap, ◌∙◌, inr, append-nil, arith}
 use Rattle.std.proofs.lemmas.Bool.{and_parts, false≢true}
 use Rattle.notation.specs.declared.faults.LineFault.{LineFault}
 use Rattle.notation.specs.declared.faults.LineFault.TheVariants.{InAtom}
 use Rattle.notation.specs.declared.terms.Atom.{Atom}
 use Rattle.notation.specs.declared.terms.Term.{Term}
 use Rattle.notation.specs.Fits.{term_fits, atom_fits}
-use Rattle.notation.specs.Lists.{pieces, every, read_list, ending, whole_atom}
+use Rattle.notation.specs.Lists.{every, read_list, ending, whole_atom}
 use Rattle.notation.specs.Printing.{print_term, print_atom}
-use Rattle.notation.specs.Reading.{carry, term_of, read_atom}
+use Rattle.notation.specs.Reading.{carry, term_of}
 use Rattle.notation.proofs.Back.{atom_back, term_back}
 use Rattle.notation.proofs.Lacks.{lacks_atom, pieces_past, pieces_whole}
-use Rattle.queries.specs.declared.query.Query.{Query}
 use Rattle.queries.specs.Checks.{all_fit, valid}
 use Rattle.queries.specs.Laws.{QueriesReadBack, QueryLinesReadBack, QueriesPrintApart}
 use Rattle.queries.specs.Printing.{print_further, print_atoms}

@@ -1,5 +1,5 @@
 -- A turn of each loop over a list of atoms: what is left gives the same answer.
-use Rattle.std.proofs.Common.{◌≡◌, ℕ, ◌+◌, ◌<◌, ◌≤◌, Bool, true, false, cond, not, ◌&&◌, ◌||◌, eqb, List, [], ◌∷◌, ◌++◌, length, get_or, take, drop, set, Some, None, Ok, Err, Option, Result, sym, refl, ap, ◌∙◌}
+use Rattle.std.proofs.Common.{◌≡◌, ℕ, ◌+◌, ◌<◌, Bool, true, false, cond, not, ◌&&◌, ◌||◌, eqb, List, [], ◌∷◌, ◌++◌, length, get_or, take, drop, set, Some, None, Option, Result, sym, refl, ap, ◌∙◌}
 use Rattle.std.proofs.lemmas.List.{at_drop_more, take_more, take_more_set}
 use Rattle.notation.specs.declared.terms.Atom.{Atom}
 use Rattle.notation.specs.declared.terms.Term.{Term}

@@ -1,9 +1,7 @@
 -- Atoms with no fault make a query.
-use Rattle.std.proofs.Common.{◌≡◌, ℕ, ◌≤◌, Bool, true, false, cond, ◌&&◌, ltb, leb, List, [], ◌∷◌, length, is_some, is_ok, Some, None, Ok, Err, Option, Result, sym, refl, ap, ◌∙◌}
+use Rattle.std.proofs.Common.{◌≡◌, ℕ, ◌≤◌, Bool, true, false, cond, ◌&&◌, ltb, leb, List, [], ◌∷◌, length, is_some, is_ok, Some, None, Ok, Err, Option, Result, refl, ap, ◌∙◌}
 use Rattle.std.proofs.lemmas.Bool.{and_from, and_parts, leb-true, eq-eqb, eqb-true, false≢true}
-use Rattle.notation.specs.declared.faults.AtomFault.{AtomFault}
 use Rattle.notation.specs.declared.faults.AtomFault.TheVariants.{InTerm, Broken, Repeated}
-use Rattle.notation.specs.declared.faults.LineFault.{LineFault}
 use Rattle.notation.specs.declared.faults.LineFault.TheVariants.{InAtom, TooMany}
 use Rattle.notation.specs.declared.faults.TermFault.TheVariants.{BadNumber, Misnumbered}
 use Rattle.notation.specs.declared.terms.Atom.{Atom}

@@ -1,7 +1,6 @@
 -- Which lists of atoms are queries, and what is wrong with the others.
 use Rattle.std.specs.Prelude.{ℕ, ◌+◌, Bool, true, false, cond, not, ◌&&◌, ◌||◌, List, [], ◌∷◌, ◌++◌, length, is_some, Some, None, Ok, Err, Option, Result, ◌==◌, nat_le, nat_lt}
 use Rattle.std.specs.List.{slice_get}
-use Rattle.notation.specs.declared.faults.TermFault.{TermFault}
 use Rattle.notation.specs.declared.faults.TermFault.TheVariants.{BadNumber, Misnumbered}
 use Rattle.notation.specs.declared.faults.AtomFault.{AtomFault}
 use Rattle.notation.specs.declared.faults.AtomFault.TheVariants.{InTerm, Broken, Unlisted, WrongCount, Repeated}
@@ -9,7 +8,6 @@ use Rattle.notation.specs.declared.faults.LineFault.{LineFault}
 use Rattle.notation.specs.declared.faults.LineFault.TheVariants.{InAtom, TooMany}
 use Rattle.notation.specs.declared.terms.Term.{Term}
 use Rattle.notation.specs.declared.terms.Term.TheVariants.{Constant, Variable}
-use Rattle.notation.specs.declared.terms.Terms.{Terms}
 use Rattle.notation.specs.declared.terms.Atom.{Atom}
 use Rattle.notation.specs.Fits.{term_fits, terms_fit, atom_fits}
 use Rattle.notation.specs.Logic.{terms_of}

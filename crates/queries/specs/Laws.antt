@@ -1,5 +1,5 @@
 -- What is printed of a query reads back, and no two queries print alike.
-use Rattle.std.specs.Prelude.{◌≡◌, List, ◌++◌, Ok, codes}
+use Rattle.std.specs.Prelude.{◌≡◌, ◌++◌, Ok, codes}
 use Rattle.notation.specs.Lines.{read_key}
 use Rattle.notation.specs.Lists.{read_list, whole_atom}
 use Rattle.notation.specs.Reading.{term_of}

@@ -1,8 +1,7 @@
 -- The atoms of a query value, and what is printed of them.
-use Rattle.std.specs.Prelude.{ℕ, List, [], ◌∷◌, ◌++◌, take, Ok, Err, Result}
+use Rattle.std.specs.Prelude.{List, take, Ok, Err, Result}
 use Rattle.notation.specs.declared.terms.Atom.{Atom}
 use Rattle.notation.specs.declared.terms.Term.{Term}
-use Rattle.notation.specs.Printing.{print_term, print_atom}
 use Rattle.queries.specs.declared.query.Query.{Query}
 
 -- the atoms of a query, in order

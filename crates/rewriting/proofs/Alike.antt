@@ -1,13 +1,13 @@
 -- Results of the same classes are alike, and have no atom twice.
-use Rattle.std.proofs.Common.{◌≡◌, ℕ, zero, suc, ◌+◌, Bool, true, false, cond, T, ◌⊎◌, List, [], ◌∷◌, ◌++◌, map, sym, refl, ap, ◌∙◌, subst, inl, inr, ⊎_elim, arith}
-use Rattle.notation.specs.Logic.{Term, con, var, Atom, at, In, here, there, rename, terms}
+use Rattle.std.proofs.Common.{◌≡◌, ℕ, zero, suc, ◌+◌, Bool, true, false, cond, T, List, [], ◌∷◌, map, sym, refl, ap, ◌∙◌, subst, ⊎_elim, arith}
+use Rattle.notation.specs.Logic.{Term, con, var, Atom, In, here, there, rename, terms}
 use Rattle.search.specs.Keeping.{Occurs}
 use Rattle.rewriting.specs.Computing.{any, same_atom, same_term}
 use Rattle.rewriting.specs.Rightness.{Distinct}
 use Rattle.rewriting.specs.Steps.{Query, Ref, fixed, nth, once, at_numbers, off_numbers, member}
-use Rattle.rewriting.specs.Unifiers.{relabel, Alike, Renames}
+use Rattle.rewriting.specs.Unifiers.{relabel, Alike}
 use Rattle.rewriting.specs.Unifiers.{Result}
-use Rattle.rewriting.proofs.Lists.{by_test, none_in, in_cases, in_map, of_map, any_of, in_args, args, occurs_in, term_eq, term_refl, atom_refl, rename_same, rename_twice}
+use Rattle.rewriting.proofs.Lists.{by_test, none_in, in_cases, of_map, any_of, in_args, args, occurs_in, term_eq, term_refl, atom_refl, rename_same, rename_twice}
 use Rattle.rewriting.proofs.Apart.{terms_rename, occurs_at}
 use Rattle.rewriting.proofs.Nth.{nth_in}
 

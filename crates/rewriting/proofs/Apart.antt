@@ -1,6 +1,5 @@
 -- What a step reads is apart: its own copy for each part, unnamed variables in one head.
-use Rattle.std.proofs.Common.{◌≡◌, ℕ, zero, suc, ◌+◌, ◌<◌, ◌≤◌, Bool, true, false, cond, not, ◌&&◌, ◌||◌, T, eqb, ltb, leb, ◌⊎◌, List, [], ◌∷◌, ◌++◌, map, length, sym, refl, ap, ◌∙◌, subst, ap₂, inl, inr, ⊎_elim, arith, ltb→lt, leb→le}
-use lib.Dec.{eqb_refl}
+use Rattle.std.proofs.Common.{◌≡◌, ℕ, suc, ◌+◌, ◌<◌, ◌≤◌, true, not, ◌&&◌, ◌||◌, T, ltb, leb, List, [], ◌∷◌, ◌++◌, map, length, sym, refl, ap, ◌∙◌, subst, ⊎_elim, arith, ltb→lt}
 use Rattle.notation.specs.Logic.{Term, con, var, Atom, at, In, here, there, rename, terms}
 use Rattle.search.specs.Keeping.{Occurs, Rule}
 use Rattle.rewriting.specs.Classes.{same_ref}
@@ -11,7 +10,7 @@ use Rattle.rewriting.specs.Steps.{Query, Ref, fixed, own, copy, is_copy, in_rule
 use Rattle.rewriting.specs.Unifiers.{part_terms, Apart, TiedWithin, OneHead, ReadIsApart}
 use Rattle.rewriting.proofs.Nth.{one_of}
 use Rattle.rewriting.proofs.Fitting.{tests_of}
-use Rattle.rewriting.proofs.Lists.{by_test, both_in, or_in, none_in, in_left, in_right, in_cases, in_either, in_map, of_map, args, occurs_in, any_in, all_at, member_in, in_member, at_in, dropped_off, in_vars, of_vars, ref_eq}
+use Rattle.rewriting.proofs.Lists.{by_test, both_in, or_in, none_in, in_left, in_right, in_cases, in_either, in_map, of_map, args, occurs_in, any_in, all_at, in_member, at_in, dropped_off, in_vars, of_vars, ref_eq}
 
 map-append : {X Y : Type 0} (g : X → Y) (xs ys : List X) → map g (xs ++ ys) ≡ map g xs ++ map g ys
 map-append g [] ys = refl

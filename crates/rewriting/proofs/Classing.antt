@@ -1,9 +1,8 @@
 -- The table of classes names each class of the finest grouping.
-use Rattle.std.proofs.Common.{◌≡◌, ℕ, Bool, true, false, cond, T, ◌⊎◌, ◌↔◌, List, [], ◌∷◌, ◌++◌, sym, refl, ap, ◌∙◌, subst, inl, inr, ⊎_elim}
-use Rattle.notation.specs.Logic.{In, here, there}
+use Rattle.std.proofs.Common.{◌≡◌, ℕ, cond, T, ◌⊎◌, [], ◌∷◌, sym, refl, ap, ◌∙◌, subst, inl, inr, ⊎_elim}
+use Rattle.notation.specs.Logic.{here, there}
 use Rattle.rewriting.specs.Classes.{same_ref, name_in, joined, classes, NamesAreClasses, ConstantsApart}
-use Rattle.rewriting.specs.Judging.{ends}
-use Rattle.rewriting.specs.Steps.{Ref, fixed, own, copy, Ties, Joins, Together, Linked, tied, itself, back, via}
+use Rattle.rewriting.specs.Steps.{Ref, fixed, own, copy, Ties, Joins, Linked, tied, itself, back, via}
 use Rattle.rewriting.proofs.Lists.{by_test, none_in, in_cases, ref_eq, ref_refl}
 
 -- a grouping does not tell the two ends of an entry apart, where it does not tell a and b apart

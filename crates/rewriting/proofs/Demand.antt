@@ -1,7 +1,7 @@
 -- A query is entered exactly by a disjunctive piece-unifier step.
 use Rattle.std.proofs.Common.{◌≡◌, ◌↔◌, map}
 use Rattle.rewriting.specs.Steps.{Ref, all_ties, bare, Linked}
-use Rattle.rewriting.specs.Unifiers.{Joined, UnifierStep, EntersIsUnifier}
+use Rattle.rewriting.specs.Unifiers.{Joined, EntersIsUnifier}
 use Rattle.rewriting.proofs.Nth.{nth_in}
 use Rattle.rewriting.proofs.Named.{names}
 use Rattle.rewriting.proofs.Classing.{names_are_classes}

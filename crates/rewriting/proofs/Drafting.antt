@@ -6,7 +6,7 @@ use Rattle.notation.specs.declared.terms.Term.{Term as WrittenTerm}
 use Rattle.notation.specs.declared.terms.Terms.{Terms}
 use Rattle.rewriting.specs.declared.steps.Owner.{Owner}
 use Rattle.notation.specs.declared.terms.Term.TheVariants.{Constant, Variable}
-use Rattle.notation.specs.Logic.{var, at, In, here, there, as_term}
+use Rattle.notation.specs.Logic.{var, In, here, there, as_term}
 use Rattle.rewriting.specs.Classes.{same_ref}
 use Rattle.rewriting.specs.Computing.{any}
 use Rattle.rewriting.specs.Drafts.{first_place, entries_of, noted, noted_all, shown, shown_all, ShownTerms}

@@ -1,6 +1,6 @@
 -- What a part names and ties, by tests.
-use Rattle.std.proofs.Common.{◌≡◌, ℕ, zero, suc, ◌<◌, ◌≤◌, Bool, true, false, ◌&&◌, ◌||◌, T, ltb, leb, ◌⊎◌, List, [], ◌∷◌, ◌++◌, length, sym, refl, ap, ◌∙◌, subst, inl, inr, ⊎_elim, arith, le→leb, ltb→lt, lt→ltb, leb→le}
-use Rattle.notation.specs.Logic.{Term, Atom, In, here, there, terms}
+use Rattle.std.proofs.Common.{◌≡◌, ℕ, suc, ◌&&◌, ◌||◌, T, ltb, leb, List, [], ◌∷◌, length, sym, refl, subst, inl, inr, ⊎_elim, le→leb, ltb→lt, lt→ltb, leb→le}
+use Rattle.notation.specs.Logic.{Term, Atom, In, here, terms}
 use Rattle.rewriting.specs.Classes.{same_ref}
 use Rattle.rewriting.specs.Computing.{any, all}
 use Rattle.rewriting.specs.Judging.{rising, numbers_fit, has_ref, tie_fits, ties_fit}

@@ -1,16 +1,16 @@
 -- The judging of a step by computing is the definition of a right step.
-use Rattle.std.proofs.Common.{◌≡◌, ℕ, zero, suc, ◌<◌, ◌≤◌, Bool, true, false, cond, not, ◌&&◌, ◌||◌, T, eqb, ltb, leb, ◌⊎◌, ◌↔◌, List, [], ◌∷◌, ◌++◌, map, length, sym, refl, ap, ◌∙◌, subst, ap₂, inl, inr, ⊎_elim, arith, le→leb, eqb→eq, ltb→lt, lt→ltb, leb→le}
+use Rattle.std.proofs.Common.{◌≡◌, ℕ, zero, suc, Bool, true, false, not, ◌&&◌, ◌||◌, T, eqb, ltb, leb, ◌⊎◌, List, [], ◌∷◌, map, length, sym, refl, ap, ◌∙◌, subst, ap₂, inl, inr, ⊎_elim, le→leb, eqb→eq, ltb→lt, lt→ltb, leb→le}
 use lib.Dec.{eqb_refl}
-use Rattle.notation.specs.Logic.{Term, con, var, Atom, at, Facts, In, here, there, rename, terms}
+use Rattle.notation.specs.Logic.{Term, Atom, In, here, there, rename, terms}
 use Rattle.search.specs.Holding.{Holds}
 use Rattle.search.specs.Keeping.{Occurs, Rule}
 use Rattle.rewriting.specs.Classes.{same_ref, name_in, joined, classes}
 use Rattle.rewriting.specs.Computing.{any, all, same_atom, holds}
-use Rattle.rewriting.specs.Judging.{ends, has_ref, may_join, numbers_fit, constant_alone, within, same_set, sets_meet, unnamed_right, new_query, Ledger, Outcome, enters, strikes, refuses, Read, read, refused, standing, ties_fit, part_tested, part_read, pieces, failing, limits, fitting, verdict, tested, judge_read, judge_rule, judge, strike_tested, judge_strike, Call, step, strike, ask_standing, ask_opening, ask_rules, after_step, after_strike, after, after_all}
+use Rattle.rewriting.specs.Judging.{ends, has_ref, may_join, numbers_fit, constant_alone, within, sets_meet, unnamed_right, new_query, Ledger, Outcome, enters, strikes, refuses, Read, read, refused, standing, ties_fit, part_tested, part_read, pieces, failing, limits, fitting, verdict, tested, judge_read, judge_rule, judge, strike_tested, judge_strike}
 use Rattle.rewriting.specs.Rightness.{Stands, Reads, done, more, RightStep, Fits, StrikesOut, JudgeIsRight, StrikeIsRight}
 use Rattle.rewriting.specs.Steps.{Query, Ref, fixed, own, copy, Ties, all_ties, Part, Step, Piece, piece, nth, member, vars, is_copy, left, bare, Linked, NewQuery}
 use Rattle.rewriting.proofs.Lists.{by_test, decide, both_in, both_of, or_in, or_left, or_right, none_in, in_cases, in_map, of_map, ref_eq, ref_refl, atom_eq, atom_refl, any_in, any_of, all_at, member_in, in_member, in_vars, of_vars}
-use Rattle.rewriting.proofs.Named.{RightPieceBy, RightBy, names, right_named, named_right}
+use Rattle.rewriting.proofs.Named.{RightBy, names, right_named, named_right}
 use Rattle.rewriting.proofs.Numbering.{new_query_is, new_query_is_one}
 use Rattle.rewriting.proofs.Fitting.{tests_in, tests_of}
 use Rattle.rewriting.proofs.Search.{all_of, true_T, T_true, search_is_right}

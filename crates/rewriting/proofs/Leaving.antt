@@ -6,7 +6,7 @@ use Rattle.notation.specs.declared.terms.Term.{Term as WrittenTerm}
 use Rattle.notation.specs.declared.terms.Term.TheVariants.{Constant}
 use Rattle.notation.specs.declared.terms.Terms.TheVariants.{One}
 use Rattle.notation.specs.declared.terms.Atom.{Atom as WrittenAtom}
-use Rattle.notation.specs.Logic.{Atom, rename, terms, query_atom}
+use Rattle.notation.specs.Logic.{Atom, rename, query_atom}
 use Rattle.rewriting.specs.declared.draft.Draft.{Draft}
 use Rattle.rewriting.specs.declared.rows.Row.{Row}
 use Rattle.rewriting.specs.declared.steps.Owner.{Owner}

@@ -1,8 +1,7 @@
 -- Membership, tests, and renaming.
-use Rattle.std.proofs.Common.{◌≡◌, ℕ, zero, suc, Bool, true, false, cond, not, ◌&&◌, ◌||◌, T, eqb, ◌⊎◌, List, [], ◌∷◌, ◌++◌, map, sym, refl, ap, ◌∙◌, subst, ap₂, inl, inr, ⊎_elim, eqb→eq}
+use Rattle.std.proofs.Common.{◌≡◌, ℕ, suc, Bool, true, false, cond, ◌&&◌, ◌||◌, T, eqb, ◌⊎◌, List, [], ◌∷◌, ◌++◌, map, sym, refl, ap, subst, ap₂, inl, inr, ⊎_elim, eqb→eq}
 use lib.Dec.{eqb_refl}
 use Rattle.notation.specs.Logic.{Term, con, var, Atom, at, In, here, there, rename, terms}
-use Rattle.search.specs.Holding.{put}
 use Rattle.search.specs.Keeping.{Occurs}
 use Rattle.rewriting.specs.Classes.{same_ref}
 use Rattle.rewriting.specs.Computing.{any, all, each, same_term, same_list, same_atom}

@@ -1,11 +1,9 @@
 -- Right steps by a name for each class.
-use Rattle.std.proofs.Common.{◌≡◌, ℕ, true, ◌⊎◌, ◌↔◌, List, [], ◌∷◌, ◌++◌, map, sym, refl, ap, ◌∙◌, subst, ap₂, inl, inr, ⊎_elim}
-use Rattle.notation.specs.Logic.{Term, Atom, at, In, here, there, rename, terms}
-use Rattle.search.specs.Keeping.{Rule, Occurs}
+use Rattle.std.proofs.Common.{◌≡◌, ℕ, true, ◌⊎◌, List, [], ◌∷◌, map, sym, refl, ap, subst, ap₂}
+use Rattle.notation.specs.Logic.{Atom, at, In, here, there, rename}
+use Rattle.search.specs.Keeping.{Occurs}
 use Rattle.rewriting.specs.Classes.{name_in, classes}
-use Rattle.rewriting.specs.Judging.{new_query, Ledger}
-use Rattle.rewriting.specs.Rightness.{Reads, RightStep}
-use Rattle.rewriting.specs.Steps.{Query, Ref, fixed, own, copy, is_copy, Step, Piece, bare, Unified, OnlyTaken, Ties, all_ties, nth, left, Linked, Pairwise, Become, RightPart, Right, NewQuery}
+use Rattle.rewriting.specs.Steps.{Ref, fixed, own, is_copy, Piece, bare, all_ties, Linked, Pairwise, Become, RightPart, Right}
 use Rattle.rewriting.proofs.Lists.{none_in, in_map, of_map, args}
 use Rattle.rewriting.proofs.Classing.{names_are_classes, constants_apart}
 

@@ -1,9 +1,8 @@
 -- The new query is the published one.
-use Rattle.std.proofs.Common.{◌≡◌, ℕ, ◌⊎◌, ◌↔◌, List, [], ◌∷◌, map, sym, refl, ap, subst, inl, inr, ⊎_elim}
-use Rattle.notation.specs.Logic.{Term, Atom, at, In, rename, terms}
-use Rattle.rewriting.specs.Computing.{same_term, same_atom}
+use Rattle.std.proofs.Common.{◌≡◌, List, [], ◌∷◌, map, sym, refl, ap, subst, ⊎_elim}
+use Rattle.notation.specs.Logic.{Atom, at, In, rename}
 use Rattle.rewriting.specs.Rightness.{Distinct}
-use Rattle.rewriting.specs.Steps.{Query, Ref, once, NewQuery, Linked}
+use Rattle.rewriting.specs.Steps.{Query, Ref, NewQuery, Linked}
 use Rattle.rewriting.specs.Unifiers.{Result, NewQueryIsPublished}
 use Rattle.rewriting.proofs.Lists.{none_in, in_map, of_map}
 use Rattle.rewriting.proofs.Nth.{once_in, once_of}

@@ -1,13 +1,13 @@
 -- The new query is one, and its variables are numbered by first appearance.
-use Rattle.std.proofs.Common.{◌≡◌, ℕ, zero, suc, ◌+◌, ◌<◌, ◌≤◌, Bool, true, false, cond, T, eqb, ◌⊎◌, ◌↔◌, List, [], ◌∷◌, ◌++◌, map, length, sym, refl, ap, ◌∙◌, subst, ap₂, inl, inr, ⊎_elim, arith, eqb→eq}
+use Rattle.std.proofs.Common.{◌≡◌, ℕ, suc, ◌<◌, ◌≤◌, Bool, true, false, T, eqb, ◌↔◌, List, [], ◌∷◌, ◌++◌, map, length, sym, refl, ap, ◌∙◌, subst, inl, inr, ⊎_elim, arith, eqb→eq}
 use lib.Dec.{eqb_refl}
 use Rattle.notation.specs.Logic.{Term, con, var, Atom, at, In, here, there, rename, terms}
 use Rattle.search.specs.Keeping.{Occurs}
 use Rattle.rewriting.specs.Classes.{same_ref, classes, name_in}
 use Rattle.rewriting.specs.Computing.{any, same_atom, same_term}
 use Rattle.rewriting.specs.Judging.{new_query, order_from, place_of, numbered}
-use Rattle.rewriting.specs.Steps.{Query, Ref, fixed, own, copy, vars, Piece, all_ties, Ties, Linked, once, InOrder, NewQuery, NewQueryIsOne}
-use Rattle.rewriting.proofs.Lists.{by_test, decide, none_in, in_left, in_right, in_cases, in_either, in_map, of_map, any_in, any_of, ref_eq, ref_refl, term_eq, term_refl, atom_eq, atom_refl, rename_same, rename_twice, map_same, map_twice, args, occurs_in, in_vars, of_vars}
+use Rattle.rewriting.specs.Steps.{Query, Ref, fixed, own, copy, vars, Ties, Linked, once, InOrder, NewQuery, NewQueryIsOne}
+use Rattle.rewriting.proofs.Lists.{by_test, decide, none_in, in_left, in_right, in_cases, in_either, in_map, any_in, any_of, ref_eq, ref_refl, term_eq, term_refl, atom_eq, rename_same, rename_twice, map_same, map_twice, args, occurs_in, in_vars, of_vars}
 use Rattle.rewriting.proofs.Classing.{names_are_classes}
 use Rattle.rewriting.proofs.Apart.{terms_rename}
 use Rattle.rewriting.proofs.Results.{one_name, fixed_of}

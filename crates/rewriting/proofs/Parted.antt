@@ -1,14 +1,14 @@
 -- A turn of each loop over the parts of a step.
-use Rattle.std.proofs.Common.{◌≡◌, ℕ, zero, suc, ◌+◌, ◌<◌, ◌≤◌, Bool, true, false, cond, ◌⊎◌, List, [], ◌∷◌, ◌++◌, map, length, get_or, drop, sym, refl, ap, ◌∙◌, subst, ap₂, inl, inr, ⊎_elim, add-one, arith}
+use Rattle.std.proofs.Common.{◌≡◌, ℕ, zero, suc, ◌+◌, ◌<◌, ◌≤◌, Bool, true, cond, List, [], ◌∷◌, map, length, get_or, drop, sym, refl, ap, ◌∙◌, subst, ap₂, ⊎_elim, add-one, arith}
 use Rattle.std.proofs.lemmas.List.{at_drop_more, at_drop_all, get_or-map}
 use Rattle.notation.specs.declared.terms.Term.{Term as WrittenTerm}
 use Rattle.notation.specs.declared.terms.Atom.{Atom as WrittenAtom}
-use Rattle.notation.specs.Logic.{Term, Atom, In, query_atom}
+use Rattle.notation.specs.Logic.{Term, Atom, query_atom}
 use Rattle.rewriting.specs.declared.rows.Row.{Row}
 use Rattle.rewriting.specs.declared.steps.Part.{Part as WrittenPart}
 use Rattle.rewriting.specs.Judging.{failing, Ledger, Read, read, refused, part_read, part_tested, pieces, standing}
-use Rattle.rewriting.specs.Steps.{Ref, Query, Part, Piece, piece, nth, Ties}
-use Rattle.rewriting.specs.Tables.{Within, TiesWithin, part_ties, ties_from}
+use Rattle.rewriting.specs.Steps.{Query, Part, Piece, piece, nth}
+use Rattle.rewriting.specs.Tables.{TiesWithin, part_ties, ties_from}
 use Rattle.rewriting.specs.Written.{logic_atoms, part_of, row_at, row_standing, pieces_from}
 use Rattle.rewriting.proofs.Lists.{none_in, in_either}
 

@@ -1,15 +1,15 @@
 -- The questions answer by the definitions, and agree after every list of calls.
-use Rattle.std.proofs.Common.{◌≡◌, ℕ, zero, suc, ◌+◌, ◌<◌, Bool, true, false, not, ◌&&◌, T, ◌⊎◌, ◌↔◌, List, [], ◌∷◌, ◌++◌, sym, refl, ap, ◌∙◌, subst, inl, inr, ⊎_elim, arith}
-use Rattle.notation.specs.Logic.{Facts, In, here, there}
+use Rattle.std.proofs.Common.{◌≡◌, ℕ, zero, suc, ◌+◌, ◌<◌, Bool, true, false, not, ◌&&◌, T, ◌↔◌, List, [], ◌∷◌, sym, refl, ap, ◌∙◌, subst, arith}
+use Rattle.notation.specs.Logic.{Facts, In}
 use Rattle.search.specs.Holding.{Holds}
-use Rattle.search.specs.Keeping.{Rule, Keeps}
-use Rattle.rewriting.specs.Computing.{holds, keeps, some?}
-use Rattle.rewriting.specs.Judging.{Ledger, open_ledger, Call, lowest, standing_answer, opening_answer, rule_answer}
-use Rattle.rewriting.specs.Rightness.{Stands, KeepsAll, StandingHolds, OpeningHolds, Lowest, AnswersRight}
-use Rattle.rewriting.specs.Steps.{Query, nth, member}
+use Rattle.search.specs.Keeping.{Keeps}
+use Rattle.rewriting.specs.Computing.{holds, keeps}
+use Rattle.rewriting.specs.Judging.{Ledger, lowest}
+use Rattle.rewriting.specs.Rightness.{Lowest, AnswersRight}
+use Rattle.rewriting.specs.Steps.{nth, member}
 use Rattle.rewriting.proofs.Lists.{none_in, both_in, both_of, member_in, in_member}
 use Rattle.rewriting.proofs.Search.{true_T, T_true, search_is_right, rule_check_is_right}
-use Rattle.rewriting.proofs.Nth.{nth_in, in_nth}
+use Rattle.rewriting.proofs.Nth.{nth_in}
 
 -- the lowest place that passes, counted from i
 abbrev From : {X : Type 0} → (ℕ → X → Bool) → ℕ → List X → List ℕ → Type 0

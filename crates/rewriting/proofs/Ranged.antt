@@ -1,5 +1,5 @@
 -- Terms in range have places.
-use Rattle.std.proofs.Common.{◌≡◌, ℕ, zero, suc, ◌<◌, Bool, true, ◌&&◌, ◌||◌, T, ltb, leb, ◌⊎◌, List, [], ◌∷◌, map, length, get_or, is_some, sym, refl, ap, ◌∙◌, subst, inl, inr, ⊎_elim, arith}
+use Rattle.std.proofs.Common.{◌≡◌, ℕ, zero, suc, ◌<◌, true, ◌&&◌, ◌||◌, T, ltb, leb, List, [], ◌∷◌, map, length, get_or, is_some, sym, refl, ap, ◌∙◌, subst, ⊎_elim, arith}
 use Rattle.std.proofs.lemmas.Bool.{and_parts, ltb-true}
 use Rattle.notation.specs.declared.terms.Term.{Term as WrittenTerm}
 use Rattle.notation.specs.declared.terms.Term.TheVariants as term
@@ -7,10 +7,9 @@ use Rattle.notation.specs.declared.terms.Terms.{Terms}
 use Rattle.notation.specs.declared.terms.Terms.TheVariants.{One, Two, Three, Four}
 use Rattle.notation.specs.declared.terms.Atom.{Atom as WrittenAtom}
 use Rattle.notation.specs.Fits.{term_fits, terms_fit, atom_fits}
-use Rattle.notation.specs.Logic.{Term, Atom, at, In, here, there, rename, terms, terms_of, as_term, query_atom}
+use Rattle.notation.specs.Logic.{Term, Atom, In, here, there, rename, terms, terms_of, as_term}
 use Rattle.queries.specs.Checks.{all_fit, all_terms, fine, distinct, numbered, valid}
 use Rattle.queries.specs.RuleChecks.{heads_fine}
-use Rattle.search.specs.Keeping.{Occurs}
 use Rattle.rewriting.specs.declared.steps.Owner.{Owner}
 use Rattle.rewriting.specs.declared.steps.Owner.TheVariants as owner
 use Rattle.rewriting.specs.declared.rows.Row.{Row}

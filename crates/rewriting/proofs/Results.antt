@@ -1,12 +1,11 @@
 -- The numbering of names.
-use Rattle.std.proofs.Common.{◌≡◌, ℕ, zero, suc, Bool, true, false, cond, T, ◌⊎◌, List, [], ◌∷◌, ◌++◌, map, sym, refl, ap, ◌∙◌, subst, inl, inr, ⊎_elim, arith}
-use Rattle.notation.specs.Logic.{Term, con, var, Atom, In, here, there, rename, terms}
-use Rattle.search.specs.Keeping.{Occurs}
+use Rattle.std.proofs.Common.{◌≡◌, ℕ, suc, Bool, true, false, T, ◌⊎◌, List, [], ◌∷◌, sym, ap, ◌∙◌, subst, inl, inr, ⊎_elim, arith}
+use Rattle.notation.specs.Logic.{Term, con, var, In, here, there}
 use Rattle.rewriting.specs.Classes.{same_ref}
-use Rattle.rewriting.specs.Computing.{any, same_atom, same_term}
+use Rattle.rewriting.specs.Computing.{any}
 use Rattle.rewriting.specs.Judging.{order_from, place_of, numbered}
-use Rattle.rewriting.specs.Steps.{Query, Ref, fixed, own, copy}
-use Rattle.rewriting.proofs.Lists.{by_test, none_in, in_cases, in_map, of_map, any_in, ref_eq, ref_refl, rename_twice}
+use Rattle.rewriting.specs.Steps.{Ref, fixed, own, copy}
+use Rattle.rewriting.proofs.Lists.{by_test, none_in, in_cases, any_in, ref_eq, ref_refl}
 
 abbrev NotFixed : Ref → Type 0
 NotFixed x = (k : ℕ) → x ≡ fixed k → ⊥

@@ -1,12 +1,12 @@
 -- The search finds a giving exactly when there is one.
-use Rattle.std.proofs.Common.{◌≡◌, ℕ, Bool, true, false, cond, ◌&&◌, T, eqb, ◌⊎◌, ◌↔◌, List, [], ◌∷◌, ◌++◌, map, sym, refl, ap, ◌∙◌, subst, ap₂, inl, inr, ⊎_elim, eqb→eq}
+use Rattle.std.proofs.Common.{◌≡◌, ℕ, Bool, true, false, T, eqb, ◌⊎◌, List, [], ◌∷◌, ◌++◌, map, sym, refl, ap, ◌∙◌, subst, ap₂, inl, inr, ⊎_elim, eqb→eq}
 use lib.Dec.{eqb_refl}
 use Rattle.notation.specs.Logic.{Term, con, var, Atom, at, Facts, In, here, there, rename, terms}
-use Rattle.search.specs.Holding.{put, Makes, Holds}
-use Rattle.search.specs.Keeping.{Occurs, Agree, SomeHead, Keeps, Rule}
+use Rattle.search.specs.Holding.{put, Makes}
+use Rattle.search.specs.Keeping.{Agree, SomeHead}
 use Rattle.rewriting.specs.Computing.{any, all, each, some?, Given, given, only, give, fit_term, fit_terms, fit, ways, holds, keeps, same_term, SearchIsRight, RuleCheckIsRight}
 use Rattle.rewriting.specs.Steps.{Query}
-use Rattle.rewriting.proofs.Lists.{by_test, decide, none_in, in_left, in_right, in_cases, in_either, in_each, of_each, in_map, term_eq, term_refl, any_in, any_of, all_at, args, both_of}
+use Rattle.rewriting.proofs.Lists.{by_test, none_in, in_left, in_right, in_cases, in_either, in_each, of_each, term_eq, term_refl, any_in, any_of, all_at, args, both_of}
 
 -- what has been given: to n the term t
 abbrev Gives : Given → ℕ → Term → Type 0

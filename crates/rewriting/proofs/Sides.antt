@@ -1,12 +1,12 @@
 -- A turn of a loop over an owner's atoms at some numbers.
-use Rattle.std.proofs.Common.{◌≡◌, ℕ, suc, ◌+◌, ◌<◌, Bool, true, false, cond, ◌&&◌, ◌||◌, List, [], ◌∷◌, map, length, get_or, drop, sym, refl, ap, ◌∙◌, add-one}
-use Rattle.std.proofs.lemmas.List.{at_drop_more, at_drop_all}
+use Rattle.std.proofs.Common.{◌≡◌, ℕ, suc, ◌+◌, ◌<◌, Bool, true, false, ◌&&◌, ◌||◌, List, ◌∷◌, map, length, get_or, drop, sym, ap, ◌∙◌, add-one}
+use Rattle.std.proofs.lemmas.List.{at_drop_more}
 use Rattle.std.proofs.lemmas.Bool.{cond-true, cond-false}
 use Rattle.notation.specs.declared.terms.Term.{Term as WrittenTerm}
 use Rattle.notation.specs.declared.terms.Term.TheVariants as term
 use Rattle.notation.specs.declared.terms.Terms.TheVariants.{One}
 use Rattle.notation.specs.declared.terms.Atom.{Atom as WrittenAtom}
-use Rattle.notation.specs.Logic.{Term, Atom, rename, terms, terms_of, as_term, query_atom}
+use Rattle.notation.specs.Logic.{Atom, rename, terms, terms_of, as_term, query_atom}
 use Rattle.rewriting.specs.declared.steps.Owner.{Owner}
 use Rattle.notation.specs.declared.terms.End.TheVariants as end-variant
 use Rattle.notation.specs.declared.terms.Tie.{Tie}

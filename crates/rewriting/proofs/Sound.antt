@@ -1,13 +1,12 @@
 -- Soundness of a right step.
-use Rattle.std.proofs.Common.{◌≡◌, ℕ, zero, suc, Bool, true, false, cond, not, T, ◌⊎◌, List, [], ◌∷◌, ◌++◌, map, sym, refl, ap, ◌∙◌, subst, inl, inr, ⊎_elim, arith}
-use Rattle.notation.specs.Logic.{Term, con, var, Atom, at, Facts, In, here, there, rename, terms}
+use Rattle.std.proofs.Common.{◌≡◌, ℕ, Bool, true, false, cond, not, T, ◌⊎◌, List, [], ◌∷◌, sym, refl, ap, ◌∙◌, subst, ⊎_elim}
+use Rattle.notation.specs.Logic.{Term, con, var, Atom, Facts, In, here, there, rename, terms}
 use Rattle.search.specs.Holding.{put, Makes, Holds}
-use Rattle.search.specs.Keeping.{Occurs, Agree, SomeHead, Keeps, Rule}
+use Rattle.search.specs.Keeping.{Occurs}
 use Rattle.rewriting.specs.Classes.{same_ref}
-use Rattle.rewriting.specs.Computing.{each}
-use Rattle.rewriting.specs.Steps.{Query, Ref, fixed, own, copy, in_rule, in_copy, is_copy, Part, Piece, piece, member, vars, at_numbers, off_numbers, unnamed_of}
+use Rattle.rewriting.specs.Steps.{Query, Ref, fixed, own, copy, in_rule, in_copy, is_copy, Part, piece, member, vars, at_numbers, unnamed_of}
 use Rattle.rewriting.proofs.Named.{RightPieceBy}
-use Rattle.rewriting.proofs.Lists.{by_test, decide, none_in, in_left, in_right, in_cases, in_map, of_map, args, in_args, rename_same, rename_twice, occurs_in, ref_eq, ref_refl, member_in, in_member, at_or_off, at_in, drop_keeps, dropped_off, in_vars, of_vars}
+use Rattle.rewriting.proofs.Lists.{by_test, decide, none_in, in_cases, in_map, of_map, in_args, rename_same, rename_twice, occurs_in, ref_eq, ref_refl, member_in, at_or_off, at_in, drop_keeps, dropped_off, in_vars, of_vars}
 
 abbrev own_number : Ref → ℕ
 own_number (fixed k) = k

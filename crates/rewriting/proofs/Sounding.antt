@@ -1,15 +1,14 @@
 -- A right step is sound.
-use Rattle.std.proofs.Common.{◌≡◌, ℕ, zero, suc, Bool, true, false, cond, not, T, eqb, ◌⊎◌, ◌↔◌, List, [], ◌∷◌, ◌++◌, map, sym, refl, ap, ◌∙◌, subst, inl, inr, ⊎_elim, eqb→eq}
-use lib.Dec.{eqb_refl}
-use Rattle.notation.specs.Logic.{Term, con, var, Atom, at, Facts, In, here, there, rename, terms}
+use Rattle.std.proofs.Common.{◌≡◌, ℕ, suc, List, [], map, refl, ap, ◌∙◌, subst, ⊎_elim}
+use Rattle.notation.specs.Logic.{Term, con, var, Atom, Facts, In, here, there, rename, terms}
 use Rattle.search.specs.Holding.{put, Makes, Holds}
-use Rattle.search.specs.Keeping.{Occurs, Maps, Agree, SomeHead, Keeps, Rule}
-use Rattle.rewriting.specs.Computing.{each, any, same_term, same_atom}
-use Rattle.rewriting.specs.Judging.{numbered, order_from, new_query, Ledger, open_ledger, Call, step, strike}
-use Rattle.rewriting.specs.Rightness.{Stands, Reads, done, more, RightStep, Fits, StrikesOut, StepsAreSound}
-use Rattle.rewriting.specs.Steps.{Query, Ref, fixed, own, copy, in_rule, Part, Step, Piece, piece, bare, Unified, nth, left, all_ties, end}
-use Rattle.rewriting.proofs.Lists.{by_test, decide, none_in, in_left, in_right, in_cases, in_either, in_map, of_map, in_each, rename_same, rename_twice, term_eq, term_refl, atom_eq, any_in}
-use Rattle.rewriting.proofs.Nth.{once_in, nth_in, in_nth, nth_more, one_of}
+use Rattle.search.specs.Keeping.{SomeHead}
+use Rattle.rewriting.specs.Computing.{each}
+use Rattle.rewriting.specs.Judging.{numbered, order_from, new_query, Ledger}
+use Rattle.rewriting.specs.Rightness.{Stands, Reads, done, more, StepsAreSound}
+use Rattle.rewriting.specs.Steps.{Query, Ref, fixed, own, in_rule, Part, Piece, piece, bare, Unified, left, all_ties}
+use Rattle.rewriting.proofs.Lists.{none_in, in_left, in_right, in_map, in_each, rename_same, rename_twice}
+use Rattle.rewriting.proofs.Nth.{once_in}
 use Rattle.rewriting.proofs.Named.{RightPieceBy, RightBy, names, right_named}
 use Rattle.rewriting.proofs.Numbering.{new_query_is, new_query_is_one}
 use Rattle.rewriting.proofs.Sound.{used_holds}

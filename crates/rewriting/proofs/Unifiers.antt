@@ -1,10 +1,9 @@
 -- Right steps are disjunctive piece-unifiers.
-use Rattle.std.proofs.Common.{◌≡◌, ℕ, Bool, true, false, ◌⊎◌, ◌↔◌, List, [], ◌∷◌, ◌++◌, map, sym, refl, ap, ◌∙◌, subst, ap₂, inl, inr, ⊎_elim}
-use Rattle.notation.specs.Logic.{Atom, at, In, here, there, rename, terms}
-use Rattle.search.specs.Keeping.{Occurs}
-use Rattle.rewriting.specs.Steps.{Ref, fixed, own, copy, is_copy, Ties, Unified, OnlyTaken, Become, Linked, RightPart, Right}
-use Rattle.rewriting.specs.Unifiers.{part_terms, PieceUnifier, Joined, within, itself, back, via, DisjunctivePieceUnifier, Apart, Naming, RightIsUnifier, UnifierIsRight}
-use Rattle.rewriting.proofs.Lists.{none_in, in_left, in_right, in_cases, in_either, args, occurs_in}
+use Rattle.std.proofs.Common.{◌≡◌, ℕ, ◌⊎◌, List, sym, refl, ◌∙◌, subst, inl, inr, ⊎_elim}
+use Rattle.notation.specs.Logic.{In, terms}
+use Rattle.rewriting.specs.Steps.{Ref, fixed, own, Ties, Unified, OnlyTaken, Linked}
+use Rattle.rewriting.specs.Unifiers.{part_terms, Joined, within, itself, back, via, DisjunctivePieceUnifier, Apart, RightIsUnifier, UnifierIsRight}
+use Rattle.rewriting.proofs.Lists.{in_left, in_right, occurs_in}
 use Rattle.rewriting.proofs.Named.{become_of, of_become}
 
 fixed_num : {k m : ℕ} → fixed k ≡ fixed m → k ≡ m

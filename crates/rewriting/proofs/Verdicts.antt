@@ -1,5 +1,5 @@
 -- What a step whose parts were read comes to.
-use Rattle.std.proofs.Common.{◌≡◌, ℕ, suc, ◌<◌, ◌≤◌, Bool, true, false, cond, eqb, ltb, List, [], ◌∷◌, ◌++◌, map, length, get_or, sym, refl, ap, ◌∙◌, subst, ap₂, arith}
+use Rattle.std.proofs.Common.{◌≡◌, ℕ, suc, ◌<◌, ◌≤◌, Bool, true, false, cond, eqb, ltb, List, [], ◌∷◌, ◌++◌, map, length, get_or, sym, refl, ap, ◌∙◌, ap₂, arith}
 use lib.ListN.{length-map}
 use Rattle.std.proofs.lemmas.Bool.{lt-ltb, le-ltb, eq-eqb, ne_eqb}
 use Rattle.std.proofs.lemmas.List.{get_or-map}
@@ -9,8 +9,8 @@ use Rattle.search.specs.Keeping.{Rule}
 use Rattle.rewriting.specs.declared.rows.Row.{Row}
 use Rattle.rewriting.specs.Classes.{name_in, classes}
 use Rattle.rewriting.specs.Computing.{all, each}
-use Rattle.rewriting.specs.Judging.{Ledger, Outcome, refuses, enters, ends, constant_alone, failing, sets_meet, unnamed_right, new_query, small, limits, fitting, verdict, tested, Read, pieces, judge, judge_rule, judge_read}
-use Rattle.rewriting.specs.Steps.{Query, Ref, Part, Step, nth, Ties, Piece, bare, all_ties, left, in_rule, in_copy, off_numbers, Unified}
+use Rattle.rewriting.specs.Judging.{Ledger, refuses, enters, ends, constant_alone, failing, sets_meet, unnamed_right, new_query, small, limits, fitting, verdict, tested, Read, pieces, judge, judge_rule, judge_read}
+use Rattle.rewriting.specs.Steps.{Query, Ref, Part, Step, nth, Ties, bare, all_ties, in_rule, in_copy, off_numbers}
 use Rattle.rewriting.specs.Tables.{ties_from, part_ties}
 use Rattle.rewriting.specs.Written.{logic_atoms, row_at, pieces_from, untaken_from, left_of, rule_meant, Shows}
 use Rattle.rewriting.proofs.Nth.{nth_at, nth_past}

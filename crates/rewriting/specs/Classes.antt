@@ -1,5 +1,5 @@
 -- The classes by computing: each term's class has a name.
-use Rattle.std.specs.Prelude.{◌≡◌, ℕ, Bool, true, false, cond, ◌&&◌, ◌↔◌, List, [], ◌∷◌, ◌==◌}
+use Rattle.std.specs.Prelude.{◌≡◌, ℕ, Bool, false, cond, ◌&&◌, ◌↔◌, List, [], ◌∷◌, ◌==◌}
 use Rattle.rewriting.specs.Steps.{Ref, fixed, own, copy, Ties, Linked, Together}
 
 abbrev pub same_ref : Ref → Ref → Bool

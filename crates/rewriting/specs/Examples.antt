@@ -1,8 +1,8 @@
 -- The worked examples, as one list of equations that compute.
-use Rattle.std.specs.Prelude.{◌≡◌, ℕ, zero, suc, List, [], ◌∷◌, ◌++◌, map, length}
+use Rattle.std.specs.Prelude.{◌≡◌, ℕ, zero, suc, List, [], ◌∷◌, ◌++◌}
 use Rattle.notation.specs.Logic.{Term, con, var, Atom, at, Facts}
 use Rattle.search.specs.Keeping.{Rule}
-use Rattle.rewriting.specs.Judging.{Ledger, open_ledger, Outcome, enters, strikes, refuses, judge, judge_strike, Call, step, strike, after, standing_answer, opening_answer, rule_answer}
+use Rattle.rewriting.specs.Judging.{Ledger, open_ledger, Outcome, enters, strikes, refuses, judge, judge_strike, step, strike, after, standing_answer, opening_answer, rule_answer}
 use Rattle.rewriting.specs.Steps.{Query, End, c, r, q, Part, Step}
 
 abbrev pub v0 : Term

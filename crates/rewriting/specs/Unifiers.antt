@@ -5,7 +5,7 @@ use Rattle.notation.specs.Logic.{Term, con, var, Atom, In, rename, terms}
 use Rattle.search.specs.Keeping.{Rule, Occurs}
 use Rattle.rewriting.specs.Judging.{Ledger, judge, enters}
 use Rattle.rewriting.specs.Rightness.{Reads, Fits, Distinct}
-use Rattle.rewriting.specs.Steps.{Query, Ref, fixed, own, copy, is_copy, Unified, OnlyTaken, Piece, bare, Ties, all_ties, Linked, Right, NewQuery, Part, Step, nth, left, InOrder, vars}
+use Rattle.rewriting.specs.Steps.{Query, Ref, fixed, own, is_copy, Unified, OnlyTaken, Piece, bare, Ties, all_ties, Linked, Right, NewQuery, Part, Step, nth, left, InOrder, vars}
 
 -- terms(Q') ∪ terms(H')
 abbrev pub part_terms : Unified → List Ref

@@ -1,5 +1,5 @@
 -- The lowest of several queries.
-use Rattle.std.proofs.Common.{◌≡◌, ℕ, ◌+◌, ◌<◌, Bool, true, false, ◌&&◌, ltb, List, [], ◌∷◌, map, length, get_or, sym, refl, ap, ◌∙◌, subst, arith}
+use Rattle.std.proofs.Common.{◌≡◌, ℕ, ◌<◌, true, List, [], ◌∷◌, map, length, get_or, sym, refl, ap, ◌∙◌, subst}
 use Rattle.std.proofs.lemmas.List.{get_or-map}
 use Rattle.std.proofs.lemmas.Bool.{and_parts, and_from}
 use Rattle.notation.specs.declared.terms.Atom.{Atom}
@@ -10,7 +10,7 @@ use Rattle.notation.specs.declared.terms.Terms.TheVariants.{One, Two, Three, Fou
 use Rattle.notation.specs.Fits.{term_fits, terms_fit}
 use Rattle.notation.specs.Logic.{Facts, query_atom}
 use Rattle.queries.specs.declared.query.Query.{Query}
-use Rattle.queries.specs.Checks.{all_fit, fine, valid}
+use Rattle.queries.specs.Checks.{all_fit, fine}
 use Rattle.queries.specs.Queries.{atoms_of}
 use Rattle.search.specs.Answers.{HoldsAt}
 use Rattle.search.specs.Fitting.{slot_fits, variables_fit}

@@ -1,5 +1,5 @@
 -- When a query holds in a list of facts.
-use Rattle.std.specs.Prelude.{ℕ, List, map}
+use Rattle.std.specs.Prelude.{ℕ, List}
 use Rattle.notation.specs.Logic.{Term, con, var, Atom, In, rename, Facts}
 
 -- a giving of terms, at a term: a constant is only itself

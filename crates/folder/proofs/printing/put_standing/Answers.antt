@@ -1,4 +1,4 @@
-use Rattle.std.proofs.Common.{◌≡◌, ◌+◌, ◌<◌, ◌++◌, length, string_bytes, sym, ap, ◌∙◌, arith}
+use Rattle.std.proofs.Common.{◌+◌, ◌<◌, ◌++◌, length, string_bytes, sym, ap, ◌∙◌, arith}
 use Rattle.queries.specs.Printing.{print_atoms}
 use Rattle.book.specs.Ledgers.{book_of}
 use Rattle.folder.proofs.Printed.{left, skipped, printed, all_printed, as_many}

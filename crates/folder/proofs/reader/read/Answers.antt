@@ -1,4 +1,4 @@
-use Rattle.std.proofs.Common.{◌≡◌, sym, refl, ◌∙◌, arith}
+use Rattle.std.proofs.Common.{sym, refl, ◌∙◌, arith}
 use Rattle.folder.specs.Folders.{folder_of, take_line, take_end}
 use Rattle.notation.proofs.Pieces.{cut_shorter}
 use Rattle.folder.proofs.Lines.{line_read, end_read, within, failed}

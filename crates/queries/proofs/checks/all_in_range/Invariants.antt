@@ -1,5 +1,5 @@
 use Rattle.std.proofs.Common.{◌≡◌, drop}
-use Rattle.queries.specs.Checks.{each, ranged, listed}
+use Rattle.queries.specs.Checks.{each, ranged}
 use Rattle.queries.proofs.checks.all_in_range.Given as goal
 
 abbrev pub invariant-loop-a : goal.invariant-loop-a

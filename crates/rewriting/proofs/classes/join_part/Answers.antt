@@ -1,7 +1,5 @@
 use Rattle.std.proofs.Common.{◌≡◌, ◌-◌, ◌<◌, ◌∷◌, ◌++◌, length, get_or, drop, sym, ap, ◌∙◌, subst, arith}
 use Rattle.std.proofs.lemmas.List.{drop_all, drop_more}
-use Rattle.notation.specs.declared.terms.End.TheVariants.{Constant}
-use Rattle.notation.specs.declared.terms.Tie.{Tie}
 use Rattle.rewriting.specs.Classes.{name_in, classes}
 use Rattle.rewriting.specs.Joining.{joined_table, written_ties}
 use Rattle.rewriting.specs.Steps.{end}

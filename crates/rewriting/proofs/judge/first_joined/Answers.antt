@@ -1,13 +1,12 @@
-use Rattle.std.proofs.Common.{◌≡◌, Bool, true, false, List, map, length, sym, refl, ap, ◌∙◌, ap₂, arith}
+use Rattle.std.proofs.Common.{true, false, List, map, sym, refl, ap, ◌∙◌, ap₂, arith}
 use lib.ListN.{length-map}
 use Rattle.notation.specs.declared.terms.Term.{Term as WrittenTerm}
 use Rattle.notation.specs.declared.terms.Atom.{Atom as WrittenAtom}
-use Rattle.queries.specs.Checks.{all_fit}
 use Rattle.queries.specs.Rules.{heads_of}
 use Rattle.rewriting.specs.Classes.{name_in, classes}
 use Rattle.rewriting.specs.Judging.{failing, unnamed_right, ends}
-use Rattle.rewriting.specs.Steps.{Ref, piece}
-use Rattle.rewriting.specs.Written.{logic_atoms, part_of, rule_meant, row_at, pieces_from}
+use Rattle.rewriting.specs.Steps.{piece}
+use Rattle.rewriting.specs.Written.{logic_atoms, part_of, rule_meant}
 use Rattle.rewriting.proofs.Parted.{head_is, part_is, fail_more, pieces_all}
 use Rattle.rewriting.proofs.judge.first_joined.Goals as goal
 

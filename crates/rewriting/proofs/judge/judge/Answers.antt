@@ -1,14 +1,12 @@
-use Rattle.std.proofs.Common.{◌≡◌, ℕ, ◌<◌, ◌≤◌, true, List, map, length, take, vec_items, sym, refl, ap, ◌∙◌, subst, arith, length-take}
+use Rattle.std.proofs.Common.{◌≡◌, List, map, length, take, vec_items, sym, refl, ap, ◌∙◌, arith, length-take}
 use lib.ListN.{length-map}
 use Rattle.std.proofs.lemmas.Result.{err_from_is_err_and}
 use Rattle.notation.specs.Logic.{query_atom}
 use Rattle.queries.specs.Heads.{head_atoms}
 use Rattle.queries.specs.Rules.{heads_of}
 use Rattle.queries.specs.declared.rule.Rule.{Rule as WrittenRule}
-use Rattle.rewriting.specs.Judging.{Ledger, judge_read, pieces, read, tested}
+use Rattle.rewriting.specs.Judging.{pieces, read}
 use Rattle.rewriting.specs.declared.steps.Part.{Part as WrittenPart}
-use Rattle.rewriting.specs.Steps.{Part, Step}
-use Rattle.rewriting.specs.Tables.{TiesWithin, ties_from}
 use Rattle.rewriting.specs.Written.{part_of, rule_meant, step_of, pieces_from}
 use Rattle.rewriting.proofs.Verdicts.{rule_past, heads_differ, heads_same}
 use Rattle.rewriting.proofs.judge.judge.Goals as goal

@@ -1,16 +1,12 @@
-use Rattle.std.proofs.Common.{◌≡◌, ℕ, ◌+◌, ◌<◌, true, List, map, length, get_or, is_ok, sym, refl, ap, ◌∙◌, subst, add-zero, arith, below_more}
+use Rattle.std.proofs.Common.{◌≡◌, ◌+◌, map, get_or, is_ok, sym, refl, ap, ◌∙◌, subst, arith, below_more}
 use lib.ListN.{length-map}
 use Rattle.std.proofs.lemmas.Result.{err_from_is_err_and}
 use Rattle.std.proofs.lemmas.Bool.{false≢true}
 use Rattle.std.proofs.lemmas.List.{get_or-map}
-use Rattle.notation.specs.Logic.{Atom, Term}
 use Rattle.queries.specs.Rules.{heads_of}
-use Rattle.rewriting.specs.Judging.{Ledger, Read}
-use Rattle.rewriting.specs.Steps.{Part}
 use Rattle.rewriting.specs.Tables.{TiesWithin, part_ties}
-use Rattle.rewriting.specs.Written.{logic_atoms, part_of, rule_meant, row_at}
+use Rattle.rewriting.specs.Written.{logic_atoms, part_of, rule_meant}
 use Rattle.rewriting.proofs.Parted.{head_is, part_is, leads_none, leads_more, leads_refused, leads_all, ties_all, no_part}
-use Rattle.rewriting.proofs.Ranged.{row_fits}
 use Rattle.rewriting.proofs.judge.read_parts.Goals as goal
 
 pub loop-i-init : goal.loop-i-init

@@ -1,4 +1,4 @@
-use Rattle.std.proofs.Common.{◌≡◌, ℕ, ◌+◌, ◌<◌, List, map, get_or, drop}
+use Rattle.std.proofs.Common.{◌≡◌, ℕ, ◌+◌, ◌<◌, List, map, get_or}
 use Rattle.notation.specs.Logic.{Atom, Term}
 use Rattle.rewriting.specs.Judging.{Ledger, standing}
 use Rattle.rewriting.specs.Steps.{nth}

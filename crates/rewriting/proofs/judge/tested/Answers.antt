@@ -1,16 +1,15 @@
-use Rattle.std.proofs.Common.{◌≡◌, ℕ, ◌<◌, ◌≤◌, true, false, ◌&&◌, leb, List, [], ◌∷◌, map, length, sym, refl, ap, ◌∙◌, arith}
+use Rattle.std.proofs.Common.{true, false, ◌&&◌, leb, List, [], ◌∷◌, map, length, sym, refl, ap, ◌∙◌, arith}
 use lib.ListN.{length-map}
 use Rattle.std.proofs.lemmas.Bool.{and_parts, leb-true}
 use Rattle.notation.specs.declared.terms.Term.{Term as WrittenTerm}
 use Rattle.notation.specs.declared.terms.Atom.{Atom as WrittenAtom}
-use Rattle.queries.specs.Checks.{fine, all_fit, distinct}
+use Rattle.queries.specs.Checks.{all_fit, distinct}
 use Rattle.queries.specs.Heads.{body_atoms}
 use Rattle.rewriting.specs.Classes.{name_in, classes}
-use Rattle.rewriting.specs.Drafts.{draft_atoms}
-use Rattle.rewriting.specs.Judging.{Ledger, Outcome, enters, refuses, new_query, small, fitting, tested}
-use Rattle.rewriting.specs.Steps.{Query, Ref, Part, Ties, fixed}
+use Rattle.rewriting.specs.Judging.{enters, new_query, small}
+use Rattle.rewriting.specs.Steps.{Ref, Part}
 use Rattle.rewriting.specs.Tables.{ties_from}
-use Rattle.rewriting.specs.Written.{logic_atoms, part_of, rule_meant, pieces_from, left_of}
+use Rattle.rewriting.specs.Written.{logic_atoms, part_of, rule_meant, left_of}
 use Rattle.rewriting.proofs.Judged.{constants_in}
 use Rattle.rewriting.proofs.Ranged.{fine_fits}
 use Rattle.rewriting.proofs.Search.{true_T}

@@ -1,8 +1,8 @@
-use Rattle.std.proofs.Common.{◌≡◌, Bool, true, false, ◌&&◌, sym, ap, ◌∙◌, arith}
+use Rattle.std.proofs.Common.{Bool, true, false, sym, ap, ◌∙◌, arith}
 use Rattle.std.proofs.lemmas.List.{at_drop_all}
 use Rattle.notation.specs.Logic.{Atom}
 use Rattle.rewriting.specs.Classes.{same_ref}
-use Rattle.rewriting.specs.Computing.{same_atom, any, all}
+use Rattle.rewriting.specs.Computing.{same_atom, any}
 use Rattle.rewriting.specs.Judging.{within}
 use Rattle.rewriting.specs.Steps.{Ref}
 use Rattle.rewriting.specs.Written.{named_side}

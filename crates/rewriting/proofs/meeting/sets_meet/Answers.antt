@@ -1,5 +1,4 @@
-use Rattle.std.proofs.Common.{◌≡◌, ℕ, Bool, true, false, ◌&&◌, List, vec_items, sym, ap, ◌∙◌, ap₂}
-use Rattle.rewriting.specs.declared.steps.Owner.{Owner}
+use Rattle.std.proofs.Common.{ℕ, List, ◌∙◌, ap₂}
 use Rattle.rewriting.specs.declared.steps.Owner.TheVariants as owner
 use Rattle.rewriting.specs.Judging.{within}
 use Rattle.rewriting.specs.Written.{named_side}

@@ -1,4 +1,4 @@
-use Rattle.std.proofs.Common.{◌≡◌, true, false, List, sym, ap, ◌∙◌, arith}
+use Rattle.std.proofs.Common.{true, false, List, sym, ap, ◌∙◌, arith}
 use Rattle.std.proofs.lemmas.List.{at_drop_all}
 use Rattle.notation.specs.declared.terms.Tie.{Tie}
 use Rattle.rewriting.specs.Computing.{all}

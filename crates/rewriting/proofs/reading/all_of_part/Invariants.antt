@@ -1,10 +1,10 @@
-use Rattle.std.proofs.Common.{◌≡◌, List, map, drop}
+use Rattle.std.proofs.Common.{◌≡◌, List, drop}
 use Rattle.notation.specs.Logic.{Atom, Term}
 use Rattle.rewriting.specs.Computing.{all}
 use Rattle.rewriting.specs.Joining.{written_ties}
 use Rattle.rewriting.specs.Judging.{tie_fits}
-use Rattle.rewriting.specs.Steps.{end, piece}
-use Rattle.rewriting.specs.Written.{part_of, tie_of, logic_atoms}
+use Rattle.rewriting.specs.Steps.{piece}
+use Rattle.rewriting.specs.Written.{part_of, logic_atoms}
 use Rattle.rewriting.proofs.reading.all_of_part.Given as goal
 
 abbrev pub invariant-loop-t : goal.invariant-loop-t

@@ -1,4 +1,3 @@
-use Rattle.std.proofs.Common.{◌≡◌, Bool, true, false, ◌&&◌, sym, ap, ◌∙◌}
 use Rattle.rewriting.proofs.Turns.{and_both, and_first}
 use Rattle.rewriting.proofs.reading.is_tie_of_part.Goals as goal
 

@@ -1,4 +1,4 @@
-use Rattle.std.proofs.Common.{◌≡◌, Bool, true, false, ◌&&◌, List, [], length, vec_items, sym, refl, ap, ◌∙◌}
+use Rattle.std.proofs.Common.{true, false, ◌&&◌, List, [], length, vec_items, sym, refl, ap, ◌∙◌}
 use Rattle.std.proofs.lemmas.Bool.{false≢true}
 use Rattle.notation.specs.declared.terms.Term.{Term}
 use Rattle.notation.specs.declared.terms.Atom.{Atom}

@@ -1,4 +1,4 @@
-use Rattle.std.proofs.Common.{◌≡◌, map, length, vec_items, sym, ◌∙◌, arith}
+use Rattle.std.proofs.Common.{map, length, vec_items, sym, ◌∙◌, arith}
 use lib.ListN.{length-map}
 use Rattle.std.proofs.lemmas.Bool.{le-leb, lt-leb}
 use Rattle.rewriting.specs.Written.{tie_of}

@@ -1,4 +1,4 @@
-use Rattle.std.proofs.Common.{◌≡◌, true, map, Decides, sym, ap, ◌∙◌, subst}
+use Rattle.std.proofs.Common.{map, Decides, ap, ◌∙◌, subst}
 use Rattle.notation.specs.Logic.{query_atom}
 use Rattle.search.specs.Fitting.{variables_fit}
 use Rattle.search.specs.Holding.{Holds}

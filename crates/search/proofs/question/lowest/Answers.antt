@@ -1,4 +1,4 @@
-use Rattle.std.proofs.Common.{◌<◌, map, length, ap, subst, arith, below_more}
+use Rattle.std.proofs.Common.{arith, below_more}
 use lib.ListN.{length-map}
 use Rattle.std.proofs.lemmas.Bool.Decides.{not_from_Decides}
 use Rattle.queries.specs.Queries.{atoms_of}

@@ -1,4 +1,4 @@
-use Rattle.std.proofs.Common.{map, take, Decides, sym, ap, ◌∙◌, subst}
+use Rattle.std.proofs.Common.{map, take, Decides, ap, ◌∙◌, subst}
 use Rattle.queries.specs.Heads.{head_atoms}
 use Rattle.search.specs.Checking.{heads_fit, rule_of}
 use Rattle.search.specs.Fitting.{variables_fit}

@@ -1,4 +1,4 @@
-use Rattle.std.proofs.Common.{◌≡◌, ◌<◌, ◌≤◌, map, length, Ok, sym, ap, ◌∙◌, arith, rules}
+use Rattle.std.proofs.Common.{◌<◌, ◌≤◌, map, length, Ok, sym, ap, ◌∙◌, arith, rules}
 use lib.ListN.{length-map}
 use Rattle.queries.specs.Queries.{atoms_of}
 use Rattle.queries.specs.Rules.{rule_of}

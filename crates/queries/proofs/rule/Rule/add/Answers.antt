@@ -1,6 +1,6 @@
-use Rattle.std.proofs.Common.{◌≡◌, ◌<◌, ◌≤◌, true, length, Ok, sym, refl, ap, ◌∙◌, arith, rules}
+use Rattle.std.proofs.Common.{◌≡◌, length, Ok, sym, refl, ap, ◌∙◌, arith, rules}
 use Rattle.std.proofs.lemmas.Result.{err_from_is_err_and}
-use Rattle.queries.specs.Checks.{next_is, fine, check_atoms}
+use Rattle.queries.specs.Checks.{next_is, check_atoms}
 use Rattle.queries.specs.RuleChecks.{heads_fine, heads_numbered}
 use Rattle.queries.specs.Rules.{heads_of}
 use Rattle.queries.proofs.Adding.{heads_more, fine_push, numbered_push, add_is, room, few_head, few_fine}
