@@ -11,7 +11,7 @@ use Rattle.notation.specs.Printing.{print_term, print_atom}
 use Rattle.notation.specs.Reading.{carry, term_of}
 use Rattle.notation.proofs.Back.{atom_back, term_back}
 use Rattle.notation.proofs.Lacks.{lacks_atom, pieces_past, pieces_whole}
-use Rattle.queries.specs.Checks.{all_fit, valid}
+use Rattle.queries.specs.Checks.{atoms_all_fit, valid}
 use Rattle.queries.specs.Laws.{QueriesReadBack, QueryLinesReadBack, QueriesPrintApart}
 use Rattle.queries.specs.Printing.{print_further, print_atoms}
 use Rattle.queries.specs.Queries.{atoms_of}
@@ -25,7 +25,7 @@ whole_back a h =
 abbrev onto : Result (Atom Term) LineFault → Result (List (Atom Term)) LineFault → Result (List (Atom Term)) LineFault
 onto r more = carry (λ e. e) r (λ a. carry (λ e. e) more (λ as'. Ok (a ∷ as')))
 
-list_back : (a : Atom Term) (bs : List (Atom Term)) → all_fit (a ∷ bs) ≡ true → read_list (whole_atom term_of) 59 (print_atom print_term a ++ print_further bs) ≡ Ok (a ∷ bs)
+list_back : (a : Atom Term) (bs : List (Atom Term)) → atoms_all_fit (a ∷ bs) ≡ true → read_list (whole_atom term_of) 59 (print_atom print_term a ++ print_further bs) ≡ Ok (a ∷ bs)
 list_back a [] h =
     let p = and_parts _ _ h in
     let text = print_atom print_term a in

@@ -8,7 +8,7 @@ use Rattle.notation.specs.declared.terms.Atom.{Atom}
 use Rattle.notation.specs.declared.terms.Term.{Term}
 use Rattle.notation.specs.Fits.{term_fits, terms_fit}
 use Rattle.notation.specs.Reading.{carry}
-use Rattle.queries.specs.Checks.{all_terms, each, ranged, listed, numbered, next_is, distinct, all_fit, fine, valid, if_so, if_some, check_atoms}
+use Rattle.queries.specs.Checks.{all_terms, each, ranged, listed, numbered, next_is, distinct, atoms_all_fit, fine, valid, if_so, if_some, check_atoms}
 
 -- what follows an answer is reached only if the answer is no fault
 pub carried : {X Y E F : Type 0} (up : E → F) (r : Result X E) (k : X → Result Y F) (y : Y) → carry up r k ≡ Ok y → (x : X) × (r ≡ Ok x) × (k x ≡ Ok y)
@@ -31,7 +31,7 @@ both_tests true true e f x h = refl
 both_tests true false e f x h = absurd (false≢true (ap is_ok h))
 both_tests false t e f x h = absurd (false≢true (ap is_ok h))
 
-each_fit : (as' : List (Atom Term)) (x : Unit {0}) → each ranged as' ≡ Ok x → all_fit as' ≡ true
+each_fit : (as' : List (Atom Term)) (x : Unit {0}) → each ranged as' ≡ Ok x → atoms_all_fit as' ≡ true
 each_fit [] x h = refl
 each_fit (a ∷ bs) x h =
     let p = carried (λ e. e) (ranged a) (λ _. each ranged bs) x h in

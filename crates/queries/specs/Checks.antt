@@ -87,13 +87,13 @@ distinct (a ∷ bs) = not (among a bs) && distinct bs
 
 -- ---------------------------------------------------------------- queries
 
-abbrev pub all_fit : List (Atom Term) → Bool
-all_fit [] = true
-all_fit (a ∷ bs) = atom_fits term_fits a && all_fit bs
+abbrev pub atoms_all_fit : List (Atom Term) → Bool
+atoms_all_fit [] = true
+atoms_all_fit (a ∷ bs) = atom_fits term_fits a && atoms_all_fit bs
 
 -- one to `most` different atoms, each in range
 abbrev pub fine : ℕ → List (Atom Term) → Bool
-fine most as' = (nat_le 1 (length as') && nat_le (length as') most) && (all_fit as' && distinct as')
+fine most as' = (nat_le 1 (length as') && nat_le (length as') most) && (atoms_all_fit as' && distinct as')
 
 -- one to sixteen different atoms, with variables numbered from v0 by first appearance without a gap
 abbrev pub valid : List (Atom Term) → Bool

@@ -2,7 +2,7 @@
 ghost use Rattle.std.specs.Prelude.{◌≡◌, ℕ, ◌<◌, ◌≤◌, List, [], ◌∷◌, length, Err};
 ghost use Rattle.notation.specs.Fits.{term_fits, terms_fit};
 ghost use Rattle.notation.specs.Logic.{terms_of};
-ghost use Rattle.queries.specs.Checks.{atom_terms, all_terms, each, ranged, listed as is-listed, numbered, same_atom, among as is_among, distinct as is-distinct, check_atoms};
+ghost use Rattle.queries.specs.Checks.{atom_terms, all_terms, each, ranged, listed as is_listed, numbered, same_atom, among as is_among, distinct as is_distinct, check_atoms};
 
 use notation::faults::{AtomFault, LineFault, TermFault};
 use notation::terms::{Atom, Term, Terms};
@@ -62,7 +62,7 @@ fn count(ts: Terms<Term>) -> u8
 
 // The predicate is listed with the atom's number of terms.
 fn listed(arity: &[u8], a: Atom<Term>) -> Result<(), AtomFault>
-    ensures { result ≡ is-listed arity.now a }
+    ensures { result ≡ is_listed arity.now a }
 {
     let p = a.predicate as usize;
     if p >= arity.len() {
@@ -75,7 +75,7 @@ fn listed(arity: &[u8], a: Atom<Term>) -> Result<(), AtomFault>
 }
 
 fn all_listed(arity: &[u8], atoms: &[Atom<Term>]) -> Result<(), AtomFault>
-    ensures { result ≡ each (is-listed arity.now) atoms.now }
+    ensures { result ≡ each (is_listed arity.now) atoms.now }
 {
     for a in atoms {
         listed(arity, *a)?;
@@ -185,7 +185,7 @@ fn among(a: Atom<Term>, atoms: &[Atom<Term>]) -> bool
 
 // No atom occurs twice.
 fn distinct(atoms: &[Atom<Term>]) -> bool
-    ensures { result ≡ is-distinct atoms.now }
+    ensures { result ≡ is_distinct atoms.now }
 {
     for (i, a) in atoms.iter().enumerate() {
         if among(*a, &atoms[i + 1..]) {

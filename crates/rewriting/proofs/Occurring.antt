@@ -5,7 +5,7 @@ use Rattle.std.proofs.lemmas.Bool.{eq-eqb, ne_eqb, le-leb, lt-leb, lt-ltb, le-lt
 use Rattle.notation.specs.declared.terms.Term.{Term as WrittenTerm}
 use Rattle.notation.specs.declared.terms.Atom.{Atom as WrittenAtom}
 use Rattle.notation.specs.Logic.{Term, con, var, Atom, at, In, rename, terms, query_atom}
-use Rattle.queries.specs.Checks.{all_fit}
+use Rattle.queries.specs.Checks.{atoms_all_fit}
 use Rattle.rewriting.specs.declared.steps.Owner.TheVariants as owner
 use Rattle.rewriting.specs.Classes.{same_ref, name_in, classes}
 use Rattle.rewriting.specs.Computing.{same_term, any}
@@ -103,7 +103,7 @@ in_unnamed b d z e n =
     (λ t. subst T (member_vars z (terms b) ∙ occurs_terms z b ∙ sym n) t)
     (member_in z (vars (terms d)) (true_T (member_vars z (terms d) ∙ occurs_terms z d ∙ sym e)))
 
-pub unnamed_small : (b : List (Atom Term)) (d : List (WrittenAtom WrittenTerm)) (z : ℕ) → all_fit d ≡ true → In z (unnamed_of b (logic_atoms d)) → z < 32
+pub unnamed_small : (b : List (Atom Term)) (d : List (WrittenAtom WrittenTerm)) (z : ℕ) → atoms_all_fit d ≡ true → In z (unnamed_of b (logic_atoms d)) → z < 32
 unnamed_small b d z h m =
     atoms_within owner.Rule d h tt (own z)
     (subst (λ v. In (own z) v) (sym (terms_rename (ref_of owner.Rule) (logic_atoms d)))

@@ -7,7 +7,7 @@ use Rattle.notation.specs.declared.terms.Term.TheVariants.{Constant, Variable}
 use Rattle.notation.specs.declared.terms.Atom.{Atom as WrittenAtom}
 use Rattle.notation.specs.Fits.{term_fits, atom_fits}
 use Rattle.notation.specs.Logic.{Term, var, Atom, at, In, here, rename, terms, terms_of, as_term, query_atom}
-use Rattle.queries.specs.Checks.{among, same_terms, same_term as written-same-term}
+use Rattle.queries.specs.Checks.{among, same_terms, same_term as written_same_term}
 use Rattle.rewriting.specs.declared.draft.Draft.{Draft}
 use Rattle.rewriting.specs.declared.steps.Owner.{Owner}
 use Rattle.rewriting.specs.Computing.{any, same_list, same_atom, same_term}
@@ -24,7 +24,7 @@ use Rattle.rewriting.proofs.Growing.{terms_append, order_of, order_more, query_m
 
 -- ---------------------------------------------------------------- atoms as they are written
 
-same_term_is : (t u : WrittenTerm) → written-same-term t u ≡ same_term (as_term t) (as_term u)
+same_term_is : (t u : WrittenTerm) → written_same_term t u ≡ same_term (as_term t) (as_term u)
 same_term_is (Constant k) (Constant m) = refl
 same_term_is (Constant k) (Variable m) = refl
 same_term_is (Variable k) (Constant m) = refl

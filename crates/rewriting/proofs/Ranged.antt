@@ -8,7 +8,7 @@ use Rattle.notation.specs.declared.terms.Terms.TheVariants.{One, Two, Three, Fou
 use Rattle.notation.specs.declared.terms.Atom.{Atom as WrittenAtom}
 use Rattle.notation.specs.Fits.{term_fits, terms_fit, atom_fits}
 use Rattle.notation.specs.Logic.{Term, Atom, In, here, there, rename, terms, terms_of, as_term}
-use Rattle.queries.specs.Checks.{all_fit, all_terms, fine, distinct, numbered, valid}
+use Rattle.queries.specs.Checks.{atoms_all_fit, all_terms, fine, distinct, numbered, valid}
 use Rattle.queries.specs.RuleChecks.{heads_fine}
 use Rattle.rewriting.specs.declared.steps.Owner.{Owner}
 use Rattle.rewriting.specs.declared.steps.Owner.TheVariants as owner
@@ -52,15 +52,15 @@ terms_fitting (Four a b d e) h t m =
     ⊎_elim (one_fits a t p.0) (λ n. three_fit b d e t p.1 n) (in_cases m)
 
 -- the first atom, and the others
-pub fit_parts : (a : WrittenAtom WrittenTerm) (as' : List (WrittenAtom WrittenTerm)) → all_fit (a ∷ as') ≡ true → (atom_fits term_fits a ≡ true) × (all_fit as' ≡ true)
-fit_parts a as' h = and_parts (atom_fits term_fits a) (all_fit as') h
+pub fit_parts : (a : WrittenAtom WrittenTerm) (as' : List (WrittenAtom WrittenTerm)) → atoms_all_fit (a ∷ as') ≡ true → (atom_fits term_fits a ≡ true) × (atoms_all_fit as' ≡ true)
+fit_parts a as' h = and_parts (atom_fits term_fits a) (atoms_all_fit as') h
 
 -- the terms of an atom in range
 pub atom_terms_fit : (a : WrittenAtom WrittenTerm) → atom_fits term_fits a ≡ true → terms_fit term_fits a.terms ≡ true
 atom_terms_fit a h = (and_parts (ltb a.predicate 32) (terms_fit term_fits a.terms) h).1
 
 -- each term of atoms in range, as an owner has them, has a place
-pub atoms_within : (o : Owner) (as' : List (WrittenAtom WrittenTerm)) → all_fit as' ≡ true → OwnerWithin o → AtomsWithin (map (rename (ref_of o)) (logic_atoms as'))
+pub atoms_within : (o : Owner) (as' : List (WrittenAtom WrittenTerm)) → atoms_all_fit as' ≡ true → OwnerWithin o → AtomsWithin (map (rename (ref_of o)) (logic_atoms as'))
 atoms_within o [] h w x m = absurd (none_in m)
 atoms_within o (a ∷ as') h w x m =
     let p = fit_parts a as' h in
@@ -77,43 +77,43 @@ pub fourth_fits : (ts : Terms WrittenTerm) (a b d e : WrittenTerm) → ts ≡ Fo
 fourth_fits ts a b d e is h = terms_fitting (Four a b d e) (subst (λ v. terms_fit term_fits v ≡ true) is h) e (there (there (there (here refl))))
 
 -- the atom at a place
-pub fits_at : (as' : List (WrittenAtom WrittenTerm)) (j : ℕ) (d : WrittenAtom WrittenTerm) → all_fit as' ≡ true → j < length as' → atom_fits term_fits (get_or as' j d) ≡ true
+pub fits_at : (as' : List (WrittenAtom WrittenTerm)) (j : ℕ) (d : WrittenAtom WrittenTerm) → atoms_all_fit as' ≡ true → j < length as' → atom_fits term_fits (get_or as' j d) ≡ true
 fits_at [] j d h l = absurd (omega arith)
 fits_at (a ∷ as') zero d h l = (fit_parts a as' h).0
 fits_at (a ∷ as') (suc j) d h l = fits_at as' j d (fit_parts a as' h).1 (omega arith)
 
 -- atoms that are fine are in range
-pub fine_fits : (most : ℕ) (as' : List (WrittenAtom WrittenTerm)) → fine most as' ≡ true → all_fit as' ≡ true
+pub fine_fits : (most : ℕ) (as' : List (WrittenAtom WrittenTerm)) → fine most as' ≡ true → atoms_all_fit as' ≡ true
 fine_fits most as' h =
-    let p = (and_parts (leb 1 (length as') && leb (length as') most) (all_fit as' && distinct as') h).1 in
-    (and_parts (all_fit as') (distinct as') p).0
+    let p = (and_parts (leb 1 (length as') && leb (length as') most) (atoms_all_fit as' && distinct as') h).1 in
+    (and_parts (atoms_all_fit as') (distinct as') p).0
 
 -- a query is in range, and so is what a row has
-pub valid_fits : (as' : List (WrittenAtom WrittenTerm)) → valid as' ≡ true → all_fit as' ≡ true
+pub valid_fits : (as' : List (WrittenAtom WrittenTerm)) → valid as' ≡ true → atoms_all_fit as' ≡ true
 valid_fits as' h =
     let p = (and_parts (fine 16 as') (is_some (numbered 0 0 0 (all_terms as'))) h).0 in
     fine_fits 16 as' p
 
-pub row_fits : (rows : List Row) (k : ℕ) → all_valid rows ≡ true → all_fit (row_at rows k) ≡ true
+pub row_fits : (rows : List Row) (k : ℕ) → all_valid rows ≡ true → atoms_all_fit (row_at rows k) ≡ true
 row_fits [] k h = refl
 row_fits (w ∷ ws) zero h = valid_fits (row_atoms w) (and_parts (valid (row_atoms w)) (all_valid ws) h).0
 row_fits (w ∷ ws) (suc k) h = row_fits ws k (and_parts (valid (row_atoms w)) (all_valid ws) h).1
 
 -- each head of a rule is in range
-pub head_fits : (hs : List (List (WrittenAtom WrittenTerm))) (i : ℕ) → heads_fine hs ≡ true → all_fit (get_or hs i []) ≡ true
+pub head_fits : (hs : List (List (WrittenAtom WrittenTerm))) (i : ℕ) → heads_fine hs ≡ true → atoms_all_fit (get_or hs i []) ≡ true
 head_fits [] i h = refl
 head_fits (d ∷ hs) zero h = fine_fits 4 d (and_parts (fine 4 d) (heads_fine hs) h).0
 head_fits (d ∷ hs) (suc i) h = head_fits hs i (and_parts (fine 4 d) (heads_fine hs) h).1
 
 -- the terms of an owner's atoms at some numbers
-pub side_within : (o : Owner) (ns : List ℕ) (as' : List (WrittenAtom WrittenTerm)) → all_fit as' ≡ true → OwnerWithin o → AtomsWithin (side o ns 0 as')
+pub side_within : (o : Owner) (ns : List ℕ) (as' : List (WrittenAtom WrittenTerm)) → atoms_all_fit as' ≡ true → OwnerWithin o → AtomsWithin (side o ns 0 as')
 side_within o ns as' h w x m =
     let r = occurs_at (side o ns 0 as') m in
     let u = of_map (rename (ref_of o)) (at_numbers ns 0 (logic_atoms as')) r.1 in
     atoms_within o as' h w x (occurs_in r.0 (subst (λ v. In v (map (rename (ref_of o)) (logic_atoms as'))) (sym u.2) (in_map (rename (ref_of o)) (at_in ns 0 (logic_atoms as') u.1))) r.2)
 
 -- both ends of each tie of a part that is read have a place
-pub ties_within : (i : ℕ) (b : List (Atom Term)) (d qu : List (WrittenAtom WrittenTerm)) (p : Part) → i < 4 → all_fit d ≡ true → all_fit qu ≡ true →
+pub ties_within : (i : ℕ) (b : List (Atom Term)) (d qu : List (WrittenAtom WrittenTerm)) (p : Part) → i < 4 → atoms_all_fit d ≡ true → atoms_all_fit qu ≡ true →
     ties_fit p (piece i b (logic_atoms d) (logic_atoms qu) p) ≡ true → TiesWithin (part_ties i p)
 ties_within i b d qu p w hd hq h t m =
     let mm : Piece = piece i b (logic_atoms d) (logic_atoms qu) p in

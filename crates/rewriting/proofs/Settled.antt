@@ -9,7 +9,7 @@ use Rattle.notation.specs.declared.terms.Terms.TheVariants.{One, Two, Three, Fou
 use Rattle.notation.specs.declared.terms.Atom.{Atom as WrittenAtom}
 use Rattle.notation.specs.Fits.{term_fits, terms_fit, atom_fits}
 use Rattle.notation.specs.Logic.{Term, con, var, Atom, at, In, here, there, rename, terms, terms_of, as_term, query_atom}
-use Rattle.queries.specs.Checks.{all_terms, allowed, numbered as numbers, among, distinct, all_fit, fine, valid}
+use Rattle.queries.specs.Checks.{all_terms, allowed, numbered as numbers, among, distinct, atoms_all_fit, fine, valid}
 use Rattle.search.specs.Keeping.{Occurs}
 use Rattle.rewriting.specs.declared.draft.Draft.{Draft}
 use Rattle.rewriting.specs.declared.rows.Row.{Row}
@@ -45,7 +45,7 @@ InRange a = (predicate_of a < 32) × ((x : Ref) → In x (args a) → Within x)
 abbrev pub AllInRange : List (Atom Ref) → Type 0
 AllInRange ls = (a : Atom Ref) → In a ls → InRange a
 
-fit_in : {a : WrittenAtom WrittenTerm} (as' : List (WrittenAtom WrittenTerm)) → all_fit as' ≡ true → In a as' → atom_fits term_fits a ≡ true
+fit_in : {a : WrittenAtom WrittenTerm} (as' : List (WrittenAtom WrittenTerm)) → atoms_all_fit as' ≡ true → In a as' → atom_fits term_fits a ≡ true
 fit_in [] h m = absurd (none_in m)
 fit_in (b ∷ as') h m = let p = fit_parts b as' h in ⊎_elim (λ e. subst (λ v. atom_fits term_fits v ≡ true) (sym e) p.0) (λ n. fit_in as' p.1 n) (in_cases m)
 
@@ -55,7 +55,7 @@ one_in_range o a h w = (
   λ x m. atoms_within o (a ∷ []) (and_from (atom_fits term_fits a) true h refl) w x (in_left [] m),
 )
 
-in_range : (o : Owner) (as' : List (WrittenAtom WrittenTerm)) → all_fit as' ≡ true → OwnerWithin o → AllInRange (map (rename (ref_of o)) (logic_atoms as'))
+in_range : (o : Owner) (as' : List (WrittenAtom WrittenTerm)) → atoms_all_fit as' ≡ true → OwnerWithin o → AllInRange (map (rename (ref_of o)) (logic_atoms as'))
 in_range o as' h w a m =
     let u = of_map (rename (ref_of o)) (logic_atoms as') m in
     let v = of_map query_atom as' u.1 in
@@ -79,7 +79,7 @@ parts_in_range i rows (p ∷ ps) h few a m = ⊎_elim
     (in_either (map (rename (in_copy i)) (off_numbers p.taken 0 (logic_atoms (row_at rows p.query)))) m)
 
 -- the atoms that a step leaves
-pub left_in_range : (body : List (WrittenAtom WrittenTerm)) (rows : List Row) (ps : List Part) → all_fit body ≡ true → all_valid rows ≡ true → length ps ≤ 4 → AllInRange (left_of (logic_atoms body) rows ps)
+pub left_in_range : (body : List (WrittenAtom WrittenTerm)) (rows : List Row) (ps : List Part) → atoms_all_fit body ≡ true → all_valid rows ≡ true → length ps ≤ 4 → AllInRange (left_of (logic_atoms body) rows ps)
 left_in_range body rows ps fit ok few a m = ⊎_elim (λ n. in_range owner.Rule body fit tt a n) (λ n. parts_in_range 0 rows ps ok (omega arith) a n) (in_either (map (rename in_rule) (logic_atoms body)) m)
 
 pub left_some : (body : List (WrittenAtom WrittenTerm)) (rows : List Row) (ps : List Part) → 1 ≤ length body → 1 ≤ length (left_of (logic_atoms body) rows ps)
@@ -133,7 +133,7 @@ terms_fit_from (Three a b d) h = and_from _ _ (h a (here refl)) (and_from _ _ (h
 terms_fit_from (Four a b d e) h =
     and_from _ _ (h a (here refl)) (and_from _ _ (h b (there (here refl))) (and_from _ _ (h d (there (there (here refl)))) (h e (there (there (there (here refl)))))))
 
-all_fit_from : (as' : List (WrittenAtom WrittenTerm)) → ((a : WrittenAtom WrittenTerm) → In a as' → atom_fits term_fits a ≡ true) → all_fit as' ≡ true
+all_fit_from : (as' : List (WrittenAtom WrittenTerm)) → ((a : WrittenAtom WrittenTerm) → In a as' → atom_fits term_fits a ≡ true) → atoms_all_fit as' ≡ true
 all_fit_from [] h = refl
 all_fit_from (a ∷ as') h = and_from _ _ (h a (here refl)) (all_fit_from as' (λ b m. h b (there m)))
 
@@ -160,7 +160,7 @@ module _ (f : Ref → Ref) (ls : List (Atom Ref)) (as' : List (WrittenAtom Writt
       let o : Occurs (var k) (new_query f ls) = subst (Occurs (var k)) are (occurs_in (query_atom a) (in_map query_atom m) (in_map as_term i)) in
       T_true (low k) (all_at low (subst T (sym (and_parts (leb (length (new_query f ls)) 16) (all low (vars (terms (new_query f ls)))) fits).1) tt) (in_vars (terms (new_query f ls)) o))
 
-  fit_all : all_fit as' ≡ true
+  fit_all : atoms_all_fit as' ≡ true
   fit_all = all_fit_from as' (λ a m.
       let l = from a m in
       and_from (ltb a.predicate 32) (terms_fit term_fits a.terms)

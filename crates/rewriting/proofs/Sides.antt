@@ -8,7 +8,7 @@ use Rattle.notation.specs.declared.terms.Terms.TheVariants.{One}
 use Rattle.notation.specs.declared.terms.Atom.{Atom as WrittenAtom}
 use Rattle.notation.specs.Logic.{Atom, rename, terms, terms_of, as_term, query_atom}
 use Rattle.rewriting.specs.declared.steps.Owner.{Owner}
-use Rattle.notation.specs.declared.terms.End.TheVariants as end-variant
+use Rattle.notation.specs.declared.terms.End.TheVariants as end_variant
 use Rattle.notation.specs.declared.terms.Tie.{Tie}
 use Rattle.rewriting.specs.Computing.{any, all}
 use Rattle.rewriting.specs.Joining.{written_ties}
@@ -21,7 +21,7 @@ abbrev pub no_atom : WrittenAtom WrittenTerm
 no_atom = record { predicate = 0; terms = One (term.Constant 0) }
 
 abbrev pub no_tie : Tie
-no_tie = record { left = end-variant.Constant 0; right = end-variant.Constant 0 }
+no_tie = record { left = end_variant.Constant 0; right = end_variant.Constant 0 }
 
 -- r is what was answered for the tie
 pub all_tie : (P : Ref × Ref → Bool) (i : ℕ) (ts : List Tie) (j : ℕ) (r : Bool) → j < length ts → r ≡ P (end i (end_of (get_or ts j no_tie).left), end i (end_of (get_or ts j no_tie).right)) →

@@ -1,10 +1,10 @@
 // A step judged on the rules and the rows.
 ghost use Rattle.std.specs.Prelude.{◌≡◌, ℕ, ◌≤◌, true, List, [], map, length, is_ok, slice_index_or};
 ghost use Rattle.notation.specs.Logic.{Atom as LogicAtom, Term as LogicTerm};
-ghost use Rattle.queries.specs.Checks.{all_fit};
+ghost use Rattle.queries.specs.Checks.{atoms_all_fit};
 ghost use Rattle.queries.specs.Rules.{heads_of};
 ghost use Rattle.rewriting.specs.Classes.{classes as renamings, name_in};
-ghost use Rattle.rewriting.specs.Judging.{Ledger, pieces, judge as judge-in, tested as tested_in, ends, failing, sets_meet as sets-meet-in, unnamed_right as unnamed-right-in, standing};
+ghost use Rattle.rewriting.specs.Judging.{Ledger, pieces, judge as judge_in, tested as tested_in, ends, failing, sets_meet as sets_meet_in, unnamed_right as unnamed_right_in, standing};
 ghost use Rattle.rewriting.specs.Steps.{Ref, Ties, nth};
 ghost use Rattle.rewriting.specs.Tables.{Names, ties_from, TiesWithin};
 ghost use Rattle.rewriting.specs.Written.{all_valid, part_of, rule_meant, row_standing, pieces_from, option_list, ReadTo, Shows, step_of, outcome_of};
@@ -29,7 +29,7 @@ const MOST_QUERIES: usize = 64;
 // The atoms of head i, or none where there is no such head.
 fn head_at(rule: &Rule, i: usize) -> &[Atom<Term>]
     ensures value { result.now ≡ slice_index_or (heads_of rule.now) i [] }
-    ensures fits { all_fit result.now ≡ true }
+    ensures fits { atoms_all_fit result.now ≡ true }
 {
     let heads = rule.heads();
     if i >= heads.len() {
@@ -57,7 +57,7 @@ fn first_differing(table: [u16; TERMS], rule: &Rule, rows: &[Row], parts: &[Part
     requires rows { all_valid rows.now ≡ true }
     requires heads { length (rule_meant rule.now).heads ≡ length parts.now }
     requires parts { length parts.now ≤ 4 }
-    ensures { (f : Ref → Ref) (b : List (LogicAtom LogicTerm)) → Names table f → option_list result ≡ failing (sets-meet-in f) 0 (pieces_from b rows.now 0 (rule_meant rule.now).heads (map part_of parts.now)) }
+    ensures { (f : Ref → Ref) (b : List (LogicAtom LogicTerm)) → Names table f → option_list result ≡ failing (sets_meet_in f) 0 (pieces_from b rows.now 0 (rule_meant rule.now).heads (map part_of parts.now)) }
 {
     for i in 0..parts.len() {
         let part = &parts[i];
@@ -73,7 +73,7 @@ fn first_joined(table: [u16; TERMS], rule: &Rule, rows: &[Row], parts: &[Part]) 
     requires rows { all_valid rows.now ≡ true }
     requires heads { length (rule_meant rule.now).heads ≡ length parts.now }
     requires parts { length parts.now ≤ 4 }
-    ensures { (ts : Ties) → TiesWithin ts → Names table (name_in (renamings ts)) → option_list result ≡ failing (unnamed-right-in (name_in (renamings ts)) (ends ts)) 0 (pieces_from (rule_meant rule.now).body rows.now 0 (rule_meant rule.now).heads (map part_of parts.now)) }
+    ensures { (ts : Ties) → TiesWithin ts → Names table (name_in (renamings ts)) → option_list result ≡ failing (unnamed_right_in (name_in (renamings ts)) (ends ts)) 0 (pieces_from (rule_meant rule.now).body rows.now 0 (rule_meant rule.now).heads (map part_of parts.now)) }
 {
     for i in 0..parts.len() {
         let part = &parts[i];
@@ -121,7 +121,7 @@ fn tested(rule: &Rule, rows: &[Row], parts: &[Part]) -> Result<Query, StepRefusa
 // The one outcome of a step on the rules and the rows: the new query that it enters, or the refusal.
 pub fn judge(rules: &[Rule], rows: &[Row], step: &Step) -> Result<Query, StepRefusal>
     requires { all_valid rows.now ≡ true }
-    ensures { (s : Ledger) → Shows rules.now rows.now s → outcome_of result ≡ judge-in s (step_of step.now) }
+    ensures { (s : Ledger) → Shows rules.now rows.now s → outcome_of result ≡ judge_in s (step_of step.now) }
 {
     if step.rule >= rules.len() {
         return Err(StepRefusal::NoRule);

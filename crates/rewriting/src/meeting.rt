@@ -2,10 +2,10 @@
 ghost use Rattle.std.specs.Prelude.{◌≡◌, ◌<◌, true, ◌&&◌, List, map};
 ghost use Rattle.notation.specs.Fits.{term_fits, terms_fit, atom_fits};
 ghost use Rattle.notation.specs.Logic.{as_term, terms_of, query_atom, rename, Atom as LogicAtom, Term as LogicTerm};
-ghost use Rattle.queries.specs.Checks.{all_fit};
+ghost use Rattle.queries.specs.Checks.{atoms_all_fit};
 ghost use Rattle.rewriting.specs.Classes.{same_ref};
 ghost use Rattle.rewriting.specs.Computing.{same_list, same_atom, any, all};
-ghost use Rattle.rewriting.specs.Judging.{within, sets_meet as sets-meet-in};
+ghost use Rattle.rewriting.specs.Judging.{within, sets_meet as sets_meet_in};
 ghost use Rattle.rewriting.specs.Steps.{Ref, piece};
 ghost use Rattle.rewriting.specs.Tables.{Within, OwnerWithin, Names};
 ghost use Rattle.rewriting.specs.Written.{ref_of, logic_atoms, named_side, part_of};
@@ -84,7 +84,7 @@ fn met(
     numbers: &[usize],
 ) -> bool
     requires fits { atom_fits term_fits a ≡ true }
-    requires other_fits { all_fit atoms.now ≡ true }
+    requires other_fits { atoms_all_fit atoms.now ≡ true }
     requires owned { OwnerWithin owner }
     requires other_owned { OwnerWithin other }
     ensures { (f : Ref → Ref) → Names table.now f → result ≡ any (same_atom same_ref (rename f (rename (ref_of owner) (query_atom a)))) (named_side f other numbers.now 0 atoms.now) }
@@ -110,8 +110,8 @@ fn all_met(
     others: &[Atom<Term>],
     other_numbers: &[usize],
 ) -> bool
-    requires fits { all_fit atoms.now ≡ true }
-    requires other_fits { all_fit others.now ≡ true }
+    requires fits { atoms_all_fit atoms.now ≡ true }
+    requires other_fits { atoms_all_fit others.now ≡ true }
     requires owned { OwnerWithin owner }
     requires other_owned { OwnerWithin other }
     ensures { (f : Ref → Ref) → Names table.now f → result ≡ within (named_side f owner numbers.now 0 atoms.now) (named_side f other other_numbers.now 0 others.now) }
@@ -136,9 +136,9 @@ pub(crate) fn sets_meet(
     part: &Part,
 ) -> bool
     requires part { i < 4 }
-    requires head { all_fit head.now ≡ true }
-    requires query { all_fit query.now ≡ true }
-    ensures { (f : Ref → Ref) (b : List (LogicAtom LogicTerm)) → Names table f → result ≡ sets-meet-in f (piece i b (logic_atoms head.now) (logic_atoms query.now) (part_of part.now)) }
+    requires head { atoms_all_fit head.now ≡ true }
+    requires query { atoms_all_fit query.now ≡ true }
+    ensures { (f : Ref → Ref) (b : List (LogicAtom LogicTerm)) → Names table f → result ≡ sets_meet_in f (piece i b (logic_atoms head.now) (logic_atoms query.now) (part_of part.now)) }
 {
     all_met(
         &table,

@@ -2,7 +2,7 @@
 ghost use Rattle.std.specs.Prelude.{◌≡◌, ◌<◌};
 ghost use Rattle.notation.specs.Logic.{as_term, var};
 ghost use Rattle.rewriting.specs.Steps.{end};
-ghost use Rattle.rewriting.specs.Tables.{place as place-in-table, Within};
+ghost use Rattle.rewriting.specs.Tables.{place as place_in_table, Within};
 ghost use Rattle.rewriting.specs.Written.{ref_of, end_of};
 
 use crate::steps::Owner;
@@ -19,7 +19,7 @@ pub(crate) const VARIABLES: usize = 32;
 // The place of the owner's variable k.
 fn variable(owner: Owner, k: usize) -> usize
     requires { Within (ref_of owner (var k)) }
-    ensures value { result ≡ place-in-table (ref_of owner (var k)) }
+    ensures value { result ≡ place_in_table (ref_of owner (var k)) }
     ensures inside { result < 1160 }
 {
     match owner {
@@ -31,7 +31,7 @@ fn variable(owner: Owner, k: usize) -> usize
 // The place of a term of the owner's.
 pub(crate) fn place(owner: Owner, t: Term) -> usize
     requires { Within (ref_of owner (as_term t)) }
-    ensures value { result ≡ place-in-table (ref_of owner (as_term t)) }
+    ensures value { result ≡ place_in_table (ref_of owner (as_term t)) }
     ensures inside { result < 1160 }
 {
     match t {
@@ -43,7 +43,7 @@ pub(crate) fn place(owner: Owner, t: Term) -> usize
 // The place of the end of a tie of part i.
 pub(crate) fn end_place(i: usize, e: End) -> usize
     requires { Within (end i (end_of e)) }
-    ensures value { result ≡ place-in-table (end i (end_of e)) }
+    ensures value { result ≡ place_in_table (end i (end_of e)) }
     ensures inside { result < 1160 }
 {
     match e {

@@ -1,10 +1,10 @@
 // What a part says, tested before its ties are joined.
 ghost use Rattle.std.specs.Prelude.{◌≡◌, ◌<◌, true, ◌&&◌, ◌||◌, List, map, length, is_ok};
 ghost use Rattle.notation.specs.Logic.{as_term, terms_of, Atom as LogicAtom, Term as LogicTerm};
-ghost use Rattle.queries.specs.Checks.{all_fit};
+ghost use Rattle.queries.specs.Checks.{atoms_all_fit};
 ghost use Rattle.rewriting.specs.Classes.{same_ref};
 ghost use Rattle.rewriting.specs.Computing.{any, all};
-ghost use Rattle.rewriting.specs.Judging.{Read, part_read, numbers_fit as numbers-fit-in, ties_fit as ties-fit-in, tie_fits as tie-fits-in, has_ref};
+ghost use Rattle.rewriting.specs.Judging.{Read, part_read, numbers_fit as numbers_fit_in, ties_fit as ties_fit_in, tie_fits as tie_fits_in, has_ref};
 ghost use Rattle.rewriting.specs.Steps.{end, piece, nth};
 ghost use Rattle.rewriting.specs.Tables.{TiesWithin, part_ties};
 ghost use Rattle.rewriting.specs.Written.{all_valid, ref_of, end_of, side, part_of, logic_atoms, row_at, row_standing, PartRead};
@@ -73,14 +73,14 @@ fn is_of_part(i: usize, e: End, head: &[Atom<Term>], query: &[Atom<Term>], part:
 
 // Whether both ends of a tie are terms of part i.
 fn is_tie_of_part(i: usize, t: Tie, head: &[Atom<Term>], query: &[Atom<Term>], part: &Part) -> bool
-    ensures { (b : List (LogicAtom LogicTerm)) → result ≡ tie-fits-in (piece i b (logic_atoms head.now) (logic_atoms query.now) (part_of part.now)) (end i (end_of t.left), end i (end_of t.right)) }
+    ensures { (b : List (LogicAtom LogicTerm)) → result ≡ tie_fits_in (piece i b (logic_atoms head.now) (logic_atoms query.now) (part_of part.now)) (end i (end_of t.left), end i (end_of t.right)) }
 {
     is_of_part(i, t.left, head, query, part) && is_of_part(i, t.right, head, query, part)
 }
 
 // Whether this is so of each tie.
 fn all_of_part(i: usize, head: &[Atom<Term>], query: &[Atom<Term>], part: &Part) -> bool
-    ensures { (b : List (LogicAtom LogicTerm)) → result ≡ all (tie-fits-in (piece i b (logic_atoms head.now) (logic_atoms query.now) (part_of part.now))) (piece i b (logic_atoms head.now) (logic_atoms query.now) (part_of part.now)).ties }
+    ensures { (b : List (LogicAtom LogicTerm)) → result ≡ all (tie_fits_in (piece i b (logic_atoms head.now) (logic_atoms query.now) (part_of part.now))) (piece i b (logic_atoms head.now) (logic_atoms query.now) (part_of part.now)).ties }
 {
     let ties = part.ties.as_slice();
     for t in ties {
@@ -93,14 +93,14 @@ fn all_of_part(i: usize, head: &[Atom<Term>], query: &[Atom<Term>], part: &Part)
 
 // Whether the part has at most 96 ties, and these join terms of part i.
 fn ties_fit(i: usize, head: &[Atom<Term>], query: &[Atom<Term>], part: &Part) -> bool
-    ensures { (b : List (LogicAtom LogicTerm)) → result ≡ ties-fit-in (part_of part.now) (piece i b (logic_atoms head.now) (logic_atoms query.now) (part_of part.now)) }
+    ensures { (b : List (LogicAtom LogicTerm)) → result ≡ ties_fit_in (part_of part.now) (piece i b (logic_atoms head.now) (logic_atoms query.now) (part_of part.now)) }
 {
     part.ties.len() <= MOST_TIES && all_of_part(i, head, query, part)
 }
 
 // Whether the part's numbers are those of atoms of the query and of the head, at least one of each, ascending.
 fn numbers_fit(head: &[Atom<Term>], query: &[Atom<Term>], part: &Part) -> bool
-    ensures { result ≡ (numbers-fit-in (length query.now) part.now.taken.items && numbers-fit-in (length head.now) part.now.named.items) }
+    ensures { result ≡ (numbers_fit_in (length query.now) part.now.taken.items && numbers_fit_in (length head.now) part.now.named.items) }
 {
     ascending(&part.taken, query.len()) && ascending(&part.named, head.len())
 }
@@ -115,7 +115,7 @@ pub(crate) fn read_part(
 ) -> Result<(), StepRefusal>
     requires part { i < 4 }
     requires rows { all_valid rows.now ≡ true }
-    requires head { all_fit head.now ≡ true }
+    requires head { atoms_all_fit head.now ≡ true }
     ensures read { (b : List (LogicAtom LogicTerm)) (rest : Read) → PartRead result (piece i b (logic_atoms head.now) (logic_atoms (row_at rows.now part.now.query)) (part_of part.now)) rest (part_read i b (logic_atoms head.now) (part_of part.now) (row_standing (nth part.now.query rows.now)) rest) }
     ensures ties { is_ok result ≡ true → TiesWithin (part_ties i (part_of part.now)) }
 {

@@ -1,11 +1,11 @@
 // Unnamed variables: besides each, its class may hold only variables of the copy that occur in taken atoms and in no other.
 ghost use Rattle.std.specs.Prelude.{◌≡◌, ◌<◌, true, Decides};
 ghost use Rattle.notation.specs.Logic.{as_term, var, query_atom};
-ghost use Rattle.queries.specs.Checks.{all_fit};
+ghost use Rattle.queries.specs.Checks.{atoms_all_fit};
 ghost use Rattle.rewriting.specs.Classes.{classes as renamings, name_in};
 ghost use Rattle.rewriting.specs.Computing.{same_term};
 ghost use Rattle.rewriting.specs.Judging.{ends, unnamed_right};
-ghost use Rattle.rewriting.specs.Occurring.{mentions as mentions-in, occurs as occurs_in, may_stand, AllMayStand};
+ghost use Rattle.rewriting.specs.Occurring.{mentions as mentions_in, occurs as occurs_in, may_stand, AllMayStand};
 ghost use Rattle.rewriting.specs.Steps.{Ties, at_numbers, off_numbers, piece};
 ghost use Rattle.rewriting.specs.Tables.{Names, TiesWithin};
 ghost use Rattle.rewriting.specs.Written.{logic_atoms, part_of};
@@ -27,7 +27,7 @@ fn is_variable(t: Term, v: u8) -> bool
 
 // Whether the variable v occurs in the atom.
 fn mentions(a: Atom<Term>, v: u8) -> bool
-    ensures { result ≡ mentions-in v (query_atom a) }
+    ensures { result ≡ mentions_in v (query_atom a) }
 {
     match a.terms {
         Terms::One(s) => is_variable(s, v),
@@ -116,7 +116,7 @@ pub(crate) fn unnamed_right(
     query: &[Atom<Term>],
     part: &Part,
 ) -> bool
-    requires { (i < 4) × (all_fit head.now ≡ true) }
+    requires { (i < 4) × (atoms_all_fit head.now ≡ true) }
     ensures { (ts : Ties) → TiesWithin ts → Names table (name_in (renamings ts)) → result ≡ unnamed_right (name_in (renamings ts)) (ends ts) (piece i (logic_atoms body.now) (logic_atoms head.now) (logic_atoms query.now) (part_of part.now)) }
 {
     for z in 0..32u8 {

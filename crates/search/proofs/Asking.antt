@@ -10,7 +10,7 @@ use Rattle.notation.specs.declared.terms.Terms.TheVariants.{One, Two, Three, Fou
 use Rattle.notation.specs.Fits.{term_fits, terms_fit}
 use Rattle.notation.specs.Logic.{Facts, query_atom}
 use Rattle.queries.specs.declared.query.Query.{Query}
-use Rattle.queries.specs.Checks.{all_fit, fine}
+use Rattle.queries.specs.Checks.{atoms_all_fit, fine}
 use Rattle.queries.specs.Queries.{atoms_of}
 use Rattle.search.specs.Answers.{HoldsAt}
 use Rattle.search.specs.Fitting.{slot_fits, variables_fit}
@@ -33,7 +33,7 @@ terms_from (Four a b d e) h =
     let r = and_parts _ _ q.1 in
     and_from _ _ (slot_from a p.0) (and_from _ _ (slot_from b q.0) (and_from _ _ (slot_from d r.0) (slot_from e r.1)))
 
-atoms_from : (as' : List (Atom Term)) → all_fit as' ≡ true → variables_fit as' ≡ true
+atoms_from : (as' : List (Atom Term)) → atoms_all_fit as' ≡ true → variables_fit as' ≡ true
 atoms_from [] h = refl
 atoms_from (a ∷ bs) h = let p = and_parts _ _ h in and_from _ _ (terms_from a.terms (and_parts _ _ p.0).1) (atoms_from bs p.1)
 

@@ -10,7 +10,7 @@ use Rattle.queries.specs.Heads.{head_atoms, body_atoms}
 use Rattle.queries.specs.RuleChecks.{heads_fine}
 use Rattle.queries.specs.Rules.{rule_of}
 use Rattle.queries.specs.declared.head.Head.{Head}
-use Rattle.search.specs.Checking.{heads_fit, read_head, rule_of as checked-rule}
+use Rattle.search.specs.Checking.{heads_fit, read_head, rule_of as checked_rule}
 use Rattle.search.specs.Fitting.{variables_fit}
 use Rattle.search.specs.Keeping.{Keeps}
 use Rattle.search.specs.Rules.{meant, BrokenAt}
@@ -31,7 +31,7 @@ read_twice [] = refl
 read_twice (h ∷ hs) = ap (λ l. read_head h ∷ l) (read_twice hs)
 
 -- a rule value and its parts mean the same
-pub meant_is : (r : WrittenRule) → checked-rule (body_atoms r.body) (take r.count r.heads) ≡ meant (rule_of r)
+pub meant_is : (r : WrittenRule) → checked_rule (body_atoms r.body) (take r.count r.heads) ≡ meant (rule_of r)
 meant_is r = ap (λ hs. record { body = map query_atom (body_atoms r.body); heads = hs }) (read_twice (take r.count r.heads))
 
 at_number : (rs : List WrittenRule) (k : ℕ) (r : WrittenRule) → k < length rs → r ≡ get_or rs k r → get_or (map rule_of rs) k ([], []) ≡ rule_of r

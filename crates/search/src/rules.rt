@@ -2,7 +2,7 @@
 ghost use Rattle.std.specs.Prelude.{◌≡◌, true, map, Decides};
 ghost use Rattle.notation.specs.Logic.{query_atom};
 ghost use Rattle.queries.specs.Heads.{head_atoms};
-ghost use Rattle.queries.specs.Rules.{rule_of as parts-of};
+ghost use Rattle.queries.specs.Rules.{rule_of as parts_of};
 ghost use Rattle.search.specs.Fitting.{variables_fit};
 ghost use Rattle.search.specs.Keeping.{Keeps};
 ghost use Rattle.search.specs.Checking.{heads_fit, rule_of, SomeFrom, KeepsFrom};
@@ -84,14 +84,14 @@ fn keeps_atoms<G: Guide>(body: &[Atom<Term>], heads: &[Head], s: &G) -> bool
 
 // Whether the list of `s` keeps the rule.
 pub fn keeps<G: Guide>(r: &Rule, s: &G) -> bool
-    ensures { Decides result (Keeps (meant (parts-of r.now)) (G.Source.facts s.now)) }
+    ensures { Decides result (Keeps (meant (parts_of r.now)) (G.Source.facts s.now)) }
 {
     keeps_atoms(r.body(), r.heads(), s)
 }
 
 // The lowest rule that the list of `s` does not keep.
 pub fn lowest_broken<G: Guide>(rules: &[Rule], s: &G) -> Option<usize>
-    ensures { LowestBroken (map parts-of rules.now) (G.Source.facts s.now) result }
+    ensures { LowestBroken (map parts_of rules.now) (G.Source.facts s.now) result }
 {
     for (k, r) in rules.iter().enumerate() {
         if !keeps(r, s) {

@@ -9,7 +9,7 @@ use Rattle.notation.specs.Lines.{read_fact_line}
 use Rattle.notation.specs.Lists.{cut_at, onto_pieces, pieces}
 use Rattle.notation.proofs.Pieces.{pieces_more, pieces_end}
 use Rattle.sources.specs.Reading.{Parted}
-use Rattle.sources.specs.Text.{onto, told_from, text_facts, line_count, left_out}
+use Rattle.sources.specs.Text.{onto, told_from, text_facts, line_count, left_out_line}
 
 -- the facts and the lines of the pieces of a text
 abbrev told : List ℕ × List (List ℕ) → List (Atom Value)
@@ -63,7 +63,7 @@ number_at n (b ∷ s) =
 
 -- what is left tells nothing, or there is no room for it
 parted : (s : List ℕ) (fs : List (Atom Value)) (left : List ℕ) → Reached s fs left → length fs ≤ 65535 → take 65535 (fs ++ told (pieces 10 left)) ≡ fs → Parted s fs left
-unfolding text_facts left_out
+unfolding text_facts left_out_line
 parted s fs left r few e =
     let are : text_facts s ≡ fs = ap (take 65535) r.facts_so_far ∙ e in
     record {

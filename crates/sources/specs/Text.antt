@@ -26,5 +26,5 @@ line_count (b ∷ line) [] = 1
 line_count line (next ∷ more) = 1 + line_count next more
 
 -- the number of the first line left out, counted from 1, or 0 if every line counts
-unfoldable pub left_out : List ℕ → ℕ
-left_out s = cond (length (text_facts s) == line_count (pieces 10 s).0 (pieces 10 s).1) 0 (length (text_facts s) + 1)
+unfoldable pub left_out_line : List ℕ → ℕ
+left_out_line s = cond (length (text_facts s) == line_count (pieces 10 s).0 (pieces 10 s).1) 0 (length (text_facts s) + 1)

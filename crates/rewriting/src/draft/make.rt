@@ -2,7 +2,7 @@
 ghost use Rattle.std.specs.Prelude.{◌≡◌, ◌≤◌, true, [], ◌∷◌, map, length};
 ghost use Rattle.notation.specs.Fits.{term_fits, terms_fit, atom_fits};
 ghost use Rattle.notation.specs.Logic.{as_term, rename, query_atom};
-ghost use Rattle.queries.specs.Checks.{among, same_atom, all_fit, valid};
+ghost use Rattle.queries.specs.Checks.{among, same_atom, atoms_all_fit, valid};
 ghost use Rattle.queries.specs.Queries.{atoms_of};
 ghost use Rattle.rewriting.specs.Drafts.{draft_atoms, draft_names, first_place, entry_of, entries_of, ShownOne, ShownTerms, Adds, Told};
 ghost use Rattle.rewriting.specs.Judging.{new_query};
@@ -150,7 +150,7 @@ impl Draft {
         atoms: &[Atom<Term>],
         taken: &[usize],
     ) -> bool
-        requires fit { all_fit atoms.now ≡ true }
+        requires fit { atoms_all_fit atoms.now ≡ true }
         requires owned { OwnerWithin owner }
         ensures { Adds result table.now (map (rename (ref_of owner)) (off_numbers taken.now 0 (logic_atoms atoms.now))) self.old self.new }
     {
@@ -199,7 +199,7 @@ pub(crate) fn draft(
     rows: &[Row],
     parts: &[Part],
 ) -> Option<Draft>
-    requires fit { all_fit body.now ≡ true }
+    requires fit { atoms_all_fit body.now ≡ true }
     requires ranged { all_valid rows.now ≡ true }
     requires few { length parts.now ≤ 4 }
     ensures { (f : Ref → Ref) → Names table.now f → Told result (new_query f (left_of (logic_atoms body.now) rows.now (map part_of parts.now))) }

@@ -2,7 +2,7 @@ use Rattle.std.proofs.Common.{true, false, List, map, sym, refl, ap, ◌∙◌, 
 use lib.ListN.{length-map}
 use Rattle.notation.specs.declared.terms.Term.{Term as WrittenTerm}
 use Rattle.notation.specs.declared.terms.Atom.{Atom as WrittenAtom}
-use Rattle.queries.specs.Checks.{all_fit}
+use Rattle.queries.specs.Checks.{atoms_all_fit}
 use Rattle.queries.specs.Rules.{heads_of}
 use Rattle.rewriting.specs.Judging.{failing, sets_meet}
 use Rattle.rewriting.specs.Steps.{piece}
@@ -18,7 +18,7 @@ pub sets_meet-requires : goal.sets_meet-requires
 sets_meet-requires c = record {
   part = omega (arith, c.requires.parts);
   head = c.head_at.ensures.fits;
-  query = ap all_fit c.atoms_at.ensures ∙ row_fits c.args.rows.now c.index-parts-i.result.query c.requires.rows;
+  query = ap atoms_all_fit c.atoms_at.ensures ∙ row_fits c.args.rows.now c.index-parts-i.result.query c.requires.rows;
 }
 
 pub returns-then-not-sets_meet : goal.returns-then-not-sets_meet

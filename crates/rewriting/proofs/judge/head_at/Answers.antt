@@ -1,7 +1,7 @@
 use Rattle.std.proofs.Common.{◌≡◌, ◌<◌, [], length, get_or, take, sym, refl, ap, ◌∙◌, arith}
 use lib.ListN.{length-map}
 use Rattle.std.proofs.lemmas.List.{get_or_past, get_or-map}
-use Rattle.queries.specs.Checks.{all_fit}
+use Rattle.queries.specs.Checks.{atoms_all_fit}
 use Rattle.queries.specs.Heads.{head_atoms}
 use Rattle.queries.specs.Rules.{heads_of}
 use Rattle.rewriting.proofs.Ranged.{head_fits}
@@ -24,4 +24,4 @@ is c =
     ∙ sym (get_or-map head_atoms (take u.count u.heads) c.args.i c.index-heads-i.result [] l)
 
 pub returns : goal.returns
-returns c = record { value = is c; fits = ap all_fit (is c) ∙ head_fits (heads_of c.args.rule.now) c.args.i c.args.rule.now.proper }
+returns c = record { value = is c; fits = ap atoms_all_fit (is c) ∙ head_fits (heads_of c.args.rule.now) c.args.i c.args.rule.now.proper }

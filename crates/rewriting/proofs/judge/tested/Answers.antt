@@ -3,7 +3,7 @@ use lib.ListN.{length-map}
 use Rattle.std.proofs.lemmas.Bool.{and_parts, leb-true}
 use Rattle.notation.specs.declared.terms.Term.{Term as WrittenTerm}
 use Rattle.notation.specs.declared.terms.Atom.{Atom as WrittenAtom}
-use Rattle.queries.specs.Checks.{all_fit, distinct}
+use Rattle.queries.specs.Checks.{atoms_all_fit, distinct}
 use Rattle.queries.specs.Heads.{body_atoms}
 use Rattle.rewriting.specs.Classes.{name_in, classes}
 use Rattle.rewriting.specs.Judging.{enters, new_query, small}
@@ -79,7 +79,7 @@ finish-requires c =
     let f : Ref → Ref = name_in (classes (ties_from 0 ps)) in
     let b : List (WrittenAtom WrittenTerm) = body_atoms u.body in
     let is = c.in-Some-draft.ensures f c.classes_of-table.ensures.names in
-    let some = (and_parts (leb 1 (length b)) (leb (length b) 8) (and_parts (leb 1 (length b) && leb (length b) 8) (all_fit b && distinct b) u.body.proper).0).0 in
+    let some = (and_parts (leb 1 (length b)) (leb (length b) 8) (and_parts (leb 1 (length b) && leb (length b) 8) (atoms_all_fit b && distinct b) u.body.proper).0).0 in
     draft_valid c.in-Some-draft.new (ties_from 0 ps) (left_of (logic_atoms b) c.args.rows.now ps)
     (left_some b c.args.rows.now ps (leb-true 1 (length b) some))
     (constants_in (ties_from 0 ps) (true_T (sym (c.if-two_constants.ensures (ties_from 0 ps) c.requires.ties c.classes_of-table.ensures.names))))

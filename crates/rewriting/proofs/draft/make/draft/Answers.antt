@@ -1,7 +1,7 @@
 use Rattle.std.proofs.Common.{◌+◌, true, false, List, map, take, sym, ap, ◌∙◌, subst, arith}
 use Rattle.std.proofs.lemmas.List.{take_all}
 use Rattle.notation.specs.Logic.{Atom, rename}
-use Rattle.queries.specs.Checks.{all_fit}
+use Rattle.queries.specs.Checks.{atoms_all_fit}
 use Rattle.rewriting.specs.Drafts.{Adds}
 use Rattle.rewriting.specs.Steps.{Ref, in_rule}
 use Rattle.rewriting.specs.Written.{logic_atoms}
@@ -25,7 +25,7 @@ pub add_untaken-requires-in-loop-i : goal.add_untaken-requires-in-loop-i
 add_untaken-requires-in-loop-i c =
     let part = c.index-parts-i.result in
     let few = c.requires.few in
-    record { fit = ap all_fit c.atoms_at.ensures ∙ row_fits c.args.rows.now part.query c.requires.ranged; owned = omega arith }
+    record { fit = ap atoms_all_fit c.atoms_at.ensures ∙ row_fits c.args.rows.now part.query c.requires.ranged; owned = omega arith }
 
 pub loop-i-preserved : goal.loop-i-preserved
 loop-i-preserved c =
