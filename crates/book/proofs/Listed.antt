@@ -1,33 +1,69 @@
 -- The rows of a table, one by one.
-use Rattle.std.proofs.Common.{◌≡◌, ℕ, zero, suc, ◌<◌, min, true, List, [], ◌∷◌, map, length, get_or, take, set, sym, refl, ap, ◌∙◌, inl, inr, arith}
-use Rattle.std.proofs.lemmas.List.{get_or-map, take_all}
-use Rattle.std.proofs.lemmas.Bool.{and_from, and_parts, cases_lt}
+use Rattle.std.proofs.Common.{◌≡◌, ℕ, zero, suc, ◌<◌, true, false, List, [], ◌∷◌, map, length, get_or, replicate, take, sym, refl, ap, ◌∙◌, subst, arith, length-take, get_or-take}
+use lib.ListN.{length-map}
+use Rattle.std.proofs.lemmas.List.{get_or-map}
+use Rattle.std.proofs.lemmas.Bool.{and_from, and_parts}
 use Rattle.notation.specs.declared.terms.Atom.{Atom}
 use Rattle.notation.specs.declared.terms.Term.{Term}
+use Rattle.notation.specs.Logic.{Facts, query_atom}
 use Rattle.queries.specs.declared.query.Query.{Query}
+use Rattle.queries.specs.declared.row.Row.{Row}
 use Rattle.queries.specs.Checks.{valid}
 use Rattle.queries.specs.Queries.{atoms_of}
-use Rattle.book.specs.Rows.{all_valid}
-
--- no more than the whole is taken
-pub take_least : {X : Type 0} (n m r : ℕ) (xs : List X) → r ≡ min n m → length xs ≡ m → take r xs ≡ take n xs
-take_least n m r xs is long = elim (cases_lt n m) [ inl l ↦ ap (λ i. take i xs) (omega arith) | inr l ↦ take_all r xs (omega arith) ∙ sym (take_all n xs (omega arith)) ]
+use Rattle.queries.specs.Rows.{row_atoms}
+use Rattle.search.specs.Answers.{HoldsAt}
+use Rattle.search.specs.Holding.{Holds}
+use Rattle.book.specs.Rows.{Entry, entry_of, entered, queries_in, standing_in, all_valid}
 
 -- what is read of the element at k
-pub read_at : {X Y : Type 0} (f : X → Y) (xs : List X) (k : ℕ) (x : X) (e : Y) → k < length xs → x ≡ get_or xs k x → f x ≡ get_or (map f xs) k e
+read_at : {X Y : Type 0} (f : X → Y) (xs : List X) (k : ℕ) (x : X) (e : Y) → k < length xs → x ≡ get_or xs k x → f x ≡ get_or (map f xs) k e
 read_at f xs k x e l is = ap f is ∙ sym (get_or-map f xs k x e l)
-
--- a write at k that leaves what f reads there
-pub map_kept : {X Y : Type 0} (f : X → Y) (xs : List X) (k : ℕ) (x y : X) → x ≡ get_or xs k x → f y ≡ f x → map f (set xs k y) ≡ map f xs
-map_kept f [] k x y is same = refl
-map_kept f (z ∷ xs) zero x y is same = ap (λ v. v ∷ map f xs) (same ∙ ap f is)
-map_kept f (z ∷ xs) (suc k) x y is same = ap (λ vs. f z ∷ vs) (map_kept f xs k x y is same)
 
 pub valid_at : (qs : List (List (Atom Term))) (k : ℕ) → k < length qs → all_valid qs ≡ true → valid (get_or qs k []) ≡ true
 valid_at [] k l h = absurd (omega arith)
 valid_at (q ∷ qs) zero l h = (and_parts _ _ h).0
 valid_at (q ∷ qs) (suc k) l h = valid_at qs k (omega arith) (and_parts (valid q) _ h).1
 
-pub all_queries : (qs : List Query) → all_valid (map atoms_of qs) ≡ true
+pub all_queries : (qs : List Query) → all_valid (queries_in (map (λ q. entered (atoms_of q)) qs)) ≡ true
 all_queries [] = refl
 all_queries (q ∷ qs) = and_from _ _ q.proper (all_queries qs)
+
+-- where these queries were entered, they are the queries of the table, and all stand
+pub entered_queries : (qs : List Query) → queries_in (map (λ q. entered (atoms_of q)) qs) ≡ map atoms_of qs
+entered_queries [] = refl
+entered_queries (q ∷ qs) = ap (λ l. atoms_of q ∷ l) (entered_queries qs)
+
+pub entered_standing : (qs : List Query) → standing_in (map (λ q. entered (atoms_of q)) qs) ≡ replicate (length qs) true
+entered_standing [] = refl
+entered_standing (q ∷ qs) = ap (λ l. true ∷ l) (entered_standing qs)
+
+-- a row among the first n is a row
+pub row_among : (rows : List Row) (n k : ℕ) (row : Row) → k < length (take n rows) → row ≡ get_or (take n rows) k row → (k < n) × (k < length rows) × (row ≡ get_or rows k row)
+row_among rows n k row l is = let few = length-take n rows in (omega arith, omega arith, is ∙ get_or-take n rows k row (omega arith))
+
+-- the row with number k, where the rows are those of a table
+module _ (rows : List Row) (es : List Entry) (are : map entry_of rows ≡ es) (k : ℕ) (row : Row) (l : k < length rows) (is : row ≡ get_or rows k row) where
+  pub row_inside : k < length es
+  row_inside = omega (arith, length-map rows entry_of, ap length are)
+
+  pub query_inside : k < length (queries_in es)
+  query_inside = omega (arith, row_inside, length-map es (λ (e : Entry). e.query))
+
+  pub entry_at : entry_of row ≡ get_or es k (entry_of row)
+  entry_at = read_at entry_of rows k row (entry_of row) l is ∙ ap (λ x. get_or x k (entry_of row)) are
+
+  pub atoms_at : row_atoms row ≡ get_or (queries_in es) k []
+  atoms_at = read_at (λ (e : Entry). e.query) es k (entry_of row) [] row_inside entry_at
+
+  pub stands_at : row.standing ≡ get_or (standing_in es) k false
+  stands_at = read_at (λ (e : Entry). e.stands) es k (entry_of row) false row_inside entry_at
+
+  pub row_valid : all_valid (queries_in es) ≡ true → valid (row_atoms row) ≡ true
+  row_valid h = ap valid atoms_at ∙ valid_at (queries_in es) k query_inside h
+
+  module _ (q : Query) (read : atoms_of q ≡ row_atoms row) (facts : Facts) where
+    pub row_holds : Holds (map query_atom (atoms_of q)) facts → HoldsAt (queries_in es) facts k
+    row_holds h = subst (λ a. Holds (map query_atom a) facts) (read ∙ atoms_at) h
+
+    pub holds_row : HoldsAt (queries_in es) facts k → Holds (map query_atom (atoms_of q)) facts
+    holds_row h = subst (λ a. Holds (map query_atom a) facts) (sym (read ∙ atoms_at)) h

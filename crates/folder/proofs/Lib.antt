@@ -1,4 +1,3 @@
 pub mod Lines
 pub mod Printed
 pub mod Striking
-pub mod Taken

@@ -1,5 +1,5 @@
 -- How a folder is read, line by line.
-use Rattle.std.specs.Prelude.{◌≡◌, ℕ, ◌+◌, Bool, true, false, cond, List, [], ◌∷◌, ◌++◌, map, length, Ok, Err, vec_items, Result, ◌==◌, nat_le, nat_lt}
+use Rattle.std.specs.Prelude.{◌≡◌, ℕ, ◌+◌, Bool, true, false, cond, List, [], ◌∷◌, ◌++◌, map, length, Some, None, Ok, Err, vec_items, Option, Result, ◌==◌, nat_le, nat_lt}
 use Rattle.notation.specs.declared.failures.Failure.{Failure}
 use Rattle.notation.specs.declared.failures.Failure.TheVariants as failure
 use Rattle.notation.specs.declared.faults.FolderFault.{FolderFault}
@@ -22,9 +22,7 @@ use Rattle.folder.specs.declared.parts.Draft.{Draft as WrittenDraft}
 use Rattle.folder.specs.declared.parts.Draft.TheVariants as draft
 use Rattle.folder.specs.declared.parts.Fault.{Fault}
 use Rattle.folder.specs.declared.parts.Reader.{Reader}
-use Rattle.folder.specs.declared.parts.State.{State}
 use Rattle.folder.specs.declared.parts.Strike.{Strike}
-use Rattle.folder.specs.declared.parts.State.TheVariants as state
 use Rattle.folder.specs.Contents.{Entry, arity, body, head, query, strike, by, fact, entry_key, read_content}
 
 -- the rule that is being read: nothing of it, its body, or its body and some heads
@@ -33,10 +31,10 @@ pub data Draft : Type 0 where
   bare : List (Atom Term) → Draft
   headed : List (Atom Term) × List (List (Atom Term)) → Draft
 
--- a folder as far as it was read: what was read last, the numbers of terms, the rule that is being read, the rules before
+-- a folder as far as it was read: the key of the last line, the numbers of terms, the rule that is being read, the rules before
 -- it, the queries, the query that is to be struck, the strikes, the facts
 pub record Folder : Type 0 where
-  pub last : State
+  pub last : Option Key
   pub arities : List ℕ
   pub draft : Draft
   pub rules : List (List (Atom Term) × List (List (Atom Term)))
@@ -55,7 +53,7 @@ strike_of s = (s.struck, s.by)
 
 abbrev pub folder_of : Reader → Folder
 folder_of r = record {
-  last = r.state;
+  last = r.last;
   arities = vec_items r.arity;
   draft = draft_of r.draft;
   rules = map rule_of (vec_items r.rules);
@@ -66,11 +64,11 @@ folder_of r = record {
 }
 
 abbrev pub nothing_read : Folder
-nothing_read = record { last = state.Start; arities = []; draft = nothing; rules = []; queries = []; pending = 0; strikes = []; facts = [] }
+nothing_read = record { last = None; arities = []; draft = nothing; rules = []; queries = []; pending = 0; strikes = []; facts = [] }
 
 -- ---------------------------------------------------------------- one line
 
--- the place of each key in their list, and what was read last after it
+-- the place of each key in their list
 abbrev pub key_place : Key → ℕ
 key_place key.Arity = 0
 key_place key.Body = 1
@@ -80,25 +78,16 @@ key_place key.Strike = 4
 key_place key.By = 5
 key_place key.Fact = 6
 
-abbrev pub after_key : Key → State
-after_key key.Arity = state.Arity
-after_key key.Body = state.Body
-after_key key.Head = state.Head
-after_key key.Query = state.Query
-after_key key.Strike = state.Strike
-after_key key.By = state.By
-after_key key.Fact = state.Fact
-
--- the places of the keys that may follow what was read last
-abbrev pub followers : State → List ℕ
-followers state.Start = 0 ∷ []
-followers state.Arity = 1 ∷ 3 ∷ []
-followers state.Body = 2 ∷ []
-followers state.Head = 1 ∷ 2 ∷ 3 ∷ []
-followers state.Query = 3 ∷ 4 ∷ 6 ∷ []
-followers state.Strike = 5 ∷ []
-followers state.By = 4 ∷ 6 ∷ []
-followers state.Fact = 6 ∷ []
+-- the places of the keys that may follow the last one
+abbrev pub followers : Option Key → List ℕ
+followers None = 0 ∷ []
+followers (Some key.Arity) = 1 ∷ 3 ∷ []
+followers (Some key.Body) = 2 ∷ []
+followers (Some key.Head) = 1 ∷ 2 ∷ 3 ∷ []
+followers (Some key.Query) = 3 ∷ 4 ∷ 6 ∷ []
+followers (Some key.Strike) = 5 ∷ []
+followers (Some key.By) = 4 ∷ 6 ∷ []
+followers (Some key.Fact) = 6 ∷ []
 
 abbrev pub among : ℕ → List ℕ → Bool
 among n [] = false
@@ -106,7 +95,7 @@ among n (m ∷ ms) = cond (n == m) true (among n ms)
 
 -- the folder after a key that may follow
 abbrev pub move : Folder → Key → Result Folder FolderFault
-move d k = cond (among (key_place k) (followers d.last)) (Ok (record { last = after_key k; arities = d.arities; draft = d.draft; rules = d.rules; queries = d.queries; pending = d.pending; strikes = d.strikes; facts = d.facts })) (Err OutOfOrder)
+move d k = cond (among (key_place k) (followers d.last)) (Ok (record { last = Some k; arities = d.arities; draft = d.draft; rules = d.rules; queries = d.queries; pending = d.pending; strikes = d.strikes; facts = d.facts })) (Err OutOfOrder)
 
 -- 1 to 32 numbers of terms
 abbrev pub take_arity : Folder → List ℕ → Result Folder LineFault
@@ -180,16 +169,16 @@ take_line d line = carry InLine (read_content line) (take_entry d)
 
 -- ---------------------------------------------------------------- the end of the text
 
--- whether a text may end after what was read last
-abbrev pub may_end : State → Bool
-may_end state.Start = false
-may_end state.Arity = false
-may_end state.Body = false
-may_end state.Head = false
-may_end state.Query = true
-may_end state.Strike = false
-may_end state.By = true
-may_end state.Fact = true
+-- whether a text may end after the last line
+abbrev pub may_end : Option Key → Bool
+may_end None = false
+may_end (Some key.Arity) = false
+may_end (Some key.Body) = false
+may_end (Some key.Head) = false
+may_end (Some key.Query) = true
+may_end (Some key.Strike) = false
+may_end (Some key.By) = true
+may_end (Some key.Fact) = true
 
 -- a line that lacks its end has that fault, unless it is malformed before
 abbrev pub unended : Result Entry LineFault → FolderFault

@@ -1,5 +1,5 @@
 -- The printout of a folder's text.
-use Rattle.std.specs.Prelude.{◌≡◌, ℕ, List, [], ◌++◌, map, take, Ok, Err, Option, Result}
+use Rattle.std.specs.Prelude.{◌≡◌, ℕ, List, [], ◌++◌, map, take, Ok, Err, codes, Option, Result}
 use Rattle.notation.specs.declared.faults.FolderFault.{FolderFault}
 use Rattle.notation.specs.Logic.{Facts, fact_atom}
 use Rattle.book.specs.declared.refusal.Refusal.{Refusal}
@@ -29,7 +29,7 @@ pub record Asked (b : Book) (l : Facts) (was new : List ℕ) : Type 0 where
   pub broken_right : LowestBrokenRule b l broken
   pub standing_right : LowestStanding b l standing
   pub opening_right : LowestOpening b l opening
-  pub printed : new ≡ was ++ print_answers broken standing opening
+  pub printed : new ≡ was ++ (print_answers broken standing opening ++ codes "\n")
 
 -- what is printed for a folder that opens the book b: the strikes' answers, what then stands, and the answers
 pub record Answered (b : Book) (d : Folder) (was new : List ℕ) : Type 0 where
@@ -42,12 +42,12 @@ pub record Answered (b : Book) (d : Folder) (was new : List ℕ) : Type 0 where
 
 abbrev pub OpenedTo : Result Book FolderFault → Folder → List ℕ → List ℕ → Type 0
 OpenedTo (Ok b) d was new = Answered b d was new
-OpenedTo (Err f) d was new = new ≡ was ++ print_fault (at_line 0 f)
+OpenedTo (Err f) d was new = new ≡ was ++ (print_fault (at_line 0 f) ++ codes "\n")
 
 -- a reading fault is the whole printout
 abbrev pub PrintoutOf : Result Folder Fault → List ℕ → List ℕ → Type 0
 PrintoutOf (Ok d) was new = OpenedTo (open_book d.rules d.queries) d was new
-PrintoutOf (Err f) was new = new ≡ was ++ print_fault f
+PrintoutOf (Err f) was new = new ≡ was ++ (print_fault f ++ codes "\n")
 
 -- the printout of a folder's text
 abbrev pub Printout : List ℕ → List ℕ → Type 0

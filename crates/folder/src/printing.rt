@@ -1,96 +1,90 @@
 // What is printed for a folder.
-ghost use Rattle.std.specs.Prelude.{◌≡◌, ◌++◌, string_bytes, OnOk};
+ghost use Rattle.std.specs.Prelude.{◌≡◌, ◌++◌, Some, string_bytes, OnOk};
 ghost use Rattle.book.specs.Ledgers.{book_of};
 ghost use Rattle.folder.specs.Folders.{strike_of};
-ghost use Rattle.folder.specs.Printing.{print_event, print_standing, print_kept, print_answer, print_answers, print_fault};
+ghost use Rattle.folder.specs.Printing.{print_event, print_standing, print_found, print_answers, print_fault};
 
-use crate::parts::{Fault, Strike};
+use crate::parts::{Answers, Event, Fault};
 use book::ledger::Ledger;
-use book::refusal::Refusal;
-use queries::query::make::print_atoms;
+use queries::printing::Listed;
 use std::fmt;
 use std::fmt::Write;
 
-// What a strike answered.
-pub(crate) fn put_event(
-    strike: Strike,
-    answer: Result<(), Refusal>,
-    out: &mut String,
-) -> Result<(), fmt::Error>
-    ensures { OnOk result (string_bytes out.new ≡ string_bytes out.old ++ print_event (strike_of strike) answer) }
-{
-    match answer {
-        Ok(()) => {
-            let k = strike.struck;
-            write!(out, "struck={k}\n")?;
-        }
-        Err(e) => {
-            let (number, place) = e.number();
-            write!(out, "refused={number},{place}\n")?;
+impl fmt::Display for Event {
+    ghost output = { λ e. Some (print_event (strike_of e.strike) e.answer) };
+
+    fn fmt<W: fmt::Write>(&self, f: &mut fmt::Formatter<W>) -> fmt::Result {
+        match self.answer {
+            Ok(()) => {
+                let k = self.strike.struck;
+                write!(f, "struck={k}")
+            }
+            Err(e) => {
+                let (number, place) = e.number();
+                write!(f, "refused={number},{place}")
+            }
         }
     }
-    Ok(())
 }
 
 // A `stands=` and a `query=` line for each query that stands.
+// By number, as the ledger's public calls are: an iterator would need one more of them, for this loop alone, and is no plainer.
 pub(crate) fn put_standing(ledger: &Ledger, out: &mut String) -> Result<(), fmt::Error>
     ensures { OnOk result (string_bytes out.new ≡ string_bytes out.old ++ print_standing 0 (book_of ledger.now).queries (book_of ledger.now).standing) }
 {
     for k in 0..ledger.len() {
         if ledger.stands(k) {
-            write!(out, "stands={k}\nquery=")?;
-            print_atoms(ledger.atoms(k), out)?;
-            write!(out, "\n")?;
+            let query = Listed(ledger.atoms(k));
+            write!(out, "stands={k}\nquery={query}\n")?;
         }
     }
     Ok(())
 }
 
-fn put_kept(broken: Option<usize>, out: &mut String) -> Result<(), fmt::Error>
-    ensures { OnOk result (string_bytes out.new ≡ string_bytes out.old ++ print_kept broken) }
-{
-    match broken {
-        Some(k) => write!(out, "{k}")?,
-        None => write!(out, "kept")?,
+// A number, or the word for none.
+#[derive(Clone, Copy)]
+struct Found<'a> {
+    place: Option<usize>,
+    none: &'a str,
+}
+
+impl<'a> fmt::Display for Found<'a> {
+    ghost output = { λ f. Some (print_found f.none.now f.place) };
+
+    fn fmt<W: fmt::Write>(&self, f: &mut fmt::Formatter<W>) -> fmt::Result {
+        match self.place {
+            Some(k) => write!(f, "{k}"),
+            None => f.write_str(self.none),
+        }
     }
-    Ok(())
 }
 
-fn put_answer(answer: Option<usize>, out: &mut String) -> Result<(), fmt::Error>
-    ensures { OnOk result (string_bytes out.new ≡ string_bytes out.old ++ print_answer answer) }
-{
-    match answer {
-        Some(k) => write!(out, "{k}")?,
-        None => write!(out, "none")?,
+impl fmt::Display for Answers {
+    ghost output = { λ a. Some (print_answers a.broken a.standing a.opening) };
+
+    fn fmt<W: fmt::Write>(&self, f: &mut fmt::Formatter<W>) -> fmt::Result {
+        let rules = Found {
+            place: self.broken,
+            none: "kept",
+        };
+        let standing = Found {
+            place: self.standing,
+            none: "none",
+        };
+        let opening = Found {
+            place: self.opening,
+            none: "none",
+        };
+        write!(f, "rules={rules}\nstanding={standing}\nopening={opening}")
     }
-    Ok(())
 }
 
-// The answers of the rule check and of the two questions.
-pub(crate) fn put_answers(
-    broken: Option<usize>,
-    standing: Option<usize>,
-    opening: Option<usize>,
-    out: &mut String,
-) -> Result<(), fmt::Error>
-    ensures { OnOk result (string_bytes out.new ≡ string_bytes out.old ++ print_answers broken standing opening) }
-{
-    write!(out, "rules=")?;
-    put_kept(broken, out)?;
-    write!(out, "\nstanding=")?;
-    put_answer(standing, out)?;
-    write!(out, "\nopening=")?;
-    put_answer(opening, out)?;
-    write!(out, "\n")?;
-    Ok(())
-}
+impl fmt::Display for Fault {
+    ghost output = { λ f. Some (print_fault f) };
 
-// The number of a reading fault, and its line.
-pub(crate) fn put_fault(fault: Fault, out: &mut String) -> Result<(), fmt::Error>
-    ensures { OnOk result (string_bytes out.new ≡ string_bytes out.old ++ print_fault fault) }
-{
-    let (number, _) = fault.fault.graded();
-    let line = fault.line;
-    write!(out, "fault={number},{line}\n")?;
-    Ok(())
+    fn fmt<W: fmt::Write>(&self, f: &mut fmt::Formatter<W>) -> fmt::Result {
+        let (number, _) = self.fault.graded();
+        let line = self.line;
+        write!(f, "fault={number},{line}")
+    }
 }

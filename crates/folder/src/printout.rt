@@ -6,8 +6,8 @@ ghost use Rattle.folder.specs.Folders.{folder_of, strike_of};
 ghost use Rattle.folder.specs.Printouts.{Struck, Asked, OpenedTo, Printout};
 
 use crate::buffer::{Unprinted, copy_in};
-use crate::parts::{Fault, Reader, Strike};
-use crate::printing::{put_answers, put_event, put_fault, put_standing};
+use crate::parts::{Answers, Event, Fault, Reader, Strike};
+use crate::printing::put_standing;
 use crate::reader::read;
 use book::ledger::Ledger;
 use index::index::Index;
@@ -17,6 +17,7 @@ use sources::Source;
 use sources::stored::StoredSource;
 use std::alloc::Global;
 use std::fmt;
+use std::fmt::Write;
 
 // Carries out the strikes, and prints what each answered.
 fn strike_all(ledger: &mut Ledger, strikes: &[Strike], out: &mut String) -> Result<(), fmt::Error>
@@ -24,7 +25,8 @@ fn strike_all(ledger: &mut Ledger, strikes: &[Strike], out: &mut String) -> Resu
 {
     for s in strikes {
         let answer = ledger.strike(s.struck as usize, s.by as usize);
-        put_event(*s, answer, out)?;
+        let event = Event { strike: *s, answer };
+        write!(out, "{event}\n")?;
     }
     Ok(())
 }
@@ -33,10 +35,12 @@ fn strike_all(ledger: &mut Ledger, strikes: &[Strike], out: &mut String) -> Resu
 fn ask<G: Guide>(ledger: &Ledger, s: &G, out: &mut String) -> Result<(), fmt::Error>
     ensures { OnOk result (Asked (book_of ledger.now) (G.Source.facts s.now) (string_bytes out.old) (string_bytes out.new)) }
 {
-    let broken = ledger.broken(s);
-    let standing = ledger.standing(s);
-    let opening = ledger.opening(s);
-    put_answers(broken, standing, opening, out)?;
+    let answers = Answers {
+        broken: ledger.broken(s),
+        standing: ledger.standing(s),
+        opening: ledger.opening(s),
+    };
+    write!(out, "{answers}\n")?;
     Ok(())
 }
 
@@ -72,7 +76,11 @@ fn answers(heap: Global, reader: &Reader, out: &mut String) -> Result<(), fmt::E
                 out,
             )
         }
-        Err(Failure::Fault(fault)) => put_fault(Fault { line: 0, fault }, out),
+        Err(Failure::Fault(fault)) => {
+            let fault = Fault { line: 0, fault };
+            write!(out, "{fault}\n")?;
+            Ok(())
+        }
         Err(Failure::Memory) => Err(fmt::Error),
     }
 }
@@ -83,7 +91,7 @@ fn printed(heap: Global, text: &[u8]) -> Result<String, fmt::Error>
     let mut out = String::new(heap);
     match read(heap, text) {
         Ok(reader) => answers(heap, &reader, &mut out)?,
-        Err(Failure::Fault(fault)) => put_fault(fault, &mut out)?,
+        Err(Failure::Fault(fault)) => write!(out, "{fault}\n")?,
         Err(Failure::Memory) => return Err(fmt::Error),
     }
     Ok(out)

@@ -5,7 +5,7 @@ ghost use Rattle.std.specs.Prelude.{◌≡◌, Ok as Fine};
 ghost use Rattle.notation.specs.Failures.{UnlessMemory};
 
 use crate::contents::{Content, read_content};
-use crate::parts::{Draft, Fault, Reader, State, Strike};
+use crate::parts::{Draft, Fault, Reader, Strike};
 use notation::failures::Failure;
 use notation::faults::{FolderFault, LineFault};
 use notation::lines::Key;
@@ -15,13 +15,14 @@ use queries::body::Body;
 use queries::query::Query;
 use queries::rule::Rule;
 use std::alloc::Global;
+use std::mem;
 
 impl Reader {
     fn new(heap: Global) -> Reader
         ensures { folder_of result ≡ nothing_read }
     {
         Reader {
-            state: State::Start,
+            last: None,
             arity: Vec::new(heap),
             draft: Draft::Nothing,
             rules: Vec::new(heap),
@@ -36,24 +37,25 @@ impl Reader {
     fn follow(&mut self, key: Key) -> Result<(), FolderFault>
         ensures { Moves (folder_of self.new) result (move (folder_of self.old) key) }
     {
-        match (self.state, key) {
-            (State::Start, Key::Arity) => self.state = State::Arity,
-            (State::Arity | State::Head, Key::Body) => self.state = State::Body,
-            (State::Body | State::Head, Key::Head) => self.state = State::Head,
-            (State::Arity | State::Head | State::Query, Key::Query) => self.state = State::Query,
-            (State::Query | State::By, Key::Strike) => self.state = State::Strike,
-            (State::Strike, Key::By) => self.state = State::By,
-            (State::Query | State::By | State::Fact, Key::Fact) => self.state = State::Fact,
+        match (self.last, key) {
+            (None, Key::Arity) => {}
+            (Some(Key::Arity | Key::Head), Key::Body) => {}
+            (Some(Key::Body | Key::Head), Key::Head) => {}
+            (Some(Key::Arity | Key::Head | Key::Query), Key::Query) => {}
+            (Some(Key::Query | Key::By), Key::Strike) => {}
+            (Some(Key::Strike), Key::By) => {}
+            (Some(Key::Query | Key::By | Key::Fact), Key::Fact) => {}
             _ => return Err(FolderFault::OutOfOrder),
         }
+        self.last = Some(key);
         Ok(())
     }
 
-    fn take_arity(&mut self, counts: Vec<u8>) -> Result<(), Failure<LineFault>>
-        ensures { Reads (folder_of self.new) result (take_arity (folder_of self.old) counts.items) }
+    fn take_arity(&mut self, counts: Vec<u8>) -> Result<(), LineFault>
+        ensures { Moves (folder_of self.new) result (take_arity (folder_of self.old) counts.items) }
     {
         if counts.len() > 32 {
-            return Err(Failure::Fault(LineFault::TooMany));
+            return Err(LineFault::TooMany);
         }
         self.arity = counts;
         Ok(())
@@ -63,20 +65,17 @@ impl Reader {
     fn settle(&mut self) -> Result<(), Failure<LineFault>>
         ensures { Reads (folder_of self.new) result (Fine (settled (folder_of self.old))) }
     {
-        if let Draft::Headed(rule) = self.draft {
+        if let Draft::Headed(rule) = mem::replace(&mut self.draft, Draft::Nothing) {
             self.rules.push(rule)?;
-            self.draft = Draft::Nothing;
-            return Ok(());
         }
-        self.draft = Draft::Nothing;
         Ok(())
     }
 
-    fn begin_rule(&mut self, atoms: &[Atom<Term>]) -> Result<(), Failure<LineFault>>
-        ensures { Reads (folder_of self.new) result (begin_rule (folder_of self.old) atoms.now) }
+    fn begin_rule(&mut self, atoms: &[Atom<Term>]) -> Result<(), LineFault>
+        ensures { Moves (folder_of self.new) result (begin_rule (folder_of self.old) atoms.now) }
     {
         if self.rules.len() >= 32 {
-            return Err(Failure::Fault(LineFault::TooMany));
+            return Err(LineFault::TooMany);
         }
         let body = Body::new(&self.arity, atoms)?;
         self.draft = Draft::Bare(body);
@@ -87,14 +86,15 @@ impl Reader {
         ensures { Reads (folder_of self.new) result (take_body (folder_of self.old) atoms.now) }
     {
         self.settle()?;
-        self.begin_rule(atoms)
+        self.begin_rule(atoms)?;
+        Ok(())
     }
 
-    fn take_head(&mut self, atoms: &[Atom<Term>]) -> Result<(), Failure<LineFault>>
-        ensures { Reads (folder_of self.new) result (take_head (folder_of self.old) atoms.now) }
+    fn take_head(&mut self, atoms: &[Atom<Term>]) -> Result<(), LineFault>
+        ensures { Moves (folder_of self.new) result (take_head (folder_of self.old) atoms.now) }
     {
         let rule = match self.draft {
-            Draft::Nothing => return Err(Failure::Fault(LineFault::Unreadable)),
+            Draft::Nothing => return Err(LineFault::Unreadable),
             Draft::Bare(body) => Rule::new(body, &self.arity, atoms)?,
             Draft::Headed(mut rule) => {
                 rule.add(&self.arity, atoms)?;
@@ -109,7 +109,7 @@ impl Reader {
         ensures { Reads (folder_of self.new) result (add_query (folder_of self.old) atoms.now) }
     {
         if self.queries.len() >= 64 {
-            return Err(Failure::Fault(LineFault::TooMany));
+            return Err(LineFault::TooMany.into());
         }
         let q = Query::new(&self.arity, atoms)?;
         self.queries.push(q)?;
@@ -148,17 +148,15 @@ impl Reader {
         ensures { Reads (folder_of self.new) result (take_content (folder_of self.old) (content_seen content)) }
     {
         match content {
-            Content::Arity(counts) => self.take_arity(counts),
-            Content::Body(atoms) => self.take_body(&atoms),
-            Content::Head(atoms) => self.take_head(&atoms),
-            Content::Query(atoms) => self.take_query(&atoms),
-            Content::Strike(struck) => {
-                self.take_strike(struck);
-                Ok(())
-            }
-            Content::By(by) => self.take_by(by),
-            Content::Fact(fact) => self.take_fact(fact),
+            Content::Arity(counts) => self.take_arity(counts)?,
+            Content::Body(atoms) => self.take_body(&atoms)?,
+            Content::Head(atoms) => self.take_head(&atoms)?,
+            Content::Query(atoms) => self.take_query(&atoms)?,
+            Content::Strike(struck) => self.take_strike(struck),
+            Content::By(by) => self.take_by(by)?,
+            Content::Fact(fact) => self.take_fact(fact)?,
         }
+        Ok(())
     }
 
     // One line more, which is written without its end.
@@ -177,24 +175,20 @@ impl Reader {
     {
         if !left.is_empty() {
             let _ = read_content(heap, left)?;
-            return Err(Failure::Fault(FolderFault::InLine(LineFault::Unended)));
+            return Err(LineFault::Unended.into());
         }
-        match self.state {
-            State::Query | State::By | State::Fact => Ok(()),
-            State::Start | State::Arity | State::Body | State::Head | State::Strike => Err(
-                Failure::Fault(FolderFault::EndsTooSoon),
-            ),
+        match self.last {
+            Some(Key::Query | Key::By | Key::Fact) => Ok(()),
+            _ => Err(FolderFault::EndsTooSoon.into()),
         }
     }
 }
 
+// The failure, with the line that it is in.
 fn at(line: usize, e: Failure<FolderFault>) -> Failure<Fault>
     ensures { result ≡ failure_at line e }
 {
-    match e {
-        Failure::Memory => Failure::Memory,
-        Failure::Fault(fault) => Failure::Fault(Fault { line, fault }),
-    }
+    e.map(|fault| Fault { line, fault })
 }
 
 // A folder of at most 65,536 bytes.
@@ -210,7 +204,9 @@ pub fn read(heap: Global, text: &[u8]) -> Result<Reader, Failure<Fault>>
     let mut reader = Reader::new(heap);
     let mut left = text;
     let mut line = 1;
+    // No `for` over `split`: its last piece would be the text after the last line's end, which is no line.
     while let Some((piece, rest)) = cut(b'\n', left) {
+        // Not `map_err(..)?`: it was tried, and the proof got nothing of what the closure gives.
         if let Err(e) = reader.take_line(heap, piece) {
             return Err(at(line, e));
         }

@@ -1,5 +1,5 @@
-pub mod Sought
-pub mod Keyed
+pub mod Linked
 pub mod Fitted
 pub mod Leading
+pub mod Building
 pub mod Covered

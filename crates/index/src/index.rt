@@ -2,9 +2,12 @@
 mod build;
 pub mod guide;
 
-ghost use Rattle.std.specs.Prelude.{◌≡◌, ◌≤◌, map, vec_len};
+ghost use Rattle.std.specs.Prelude.{◌≡◌, ℕ, ◌<◌, ◌≤◌, Some, map, vec_len};
+ghost use Rattle.std.specs.List.{slice_get};
 ghost use Rattle.notation.specs.Logic.{fact_atom};
 ghost use Rattle.index.specs.Keys.{keys_at};
+ghost use Rattle.index.specs.Seek.{IsChain};
+ghost use Rattle.index.specs.declared.chain.Chain.{Chain};
 
 use crate::chain::Chain;
 use notation::terms::Fact;
@@ -13,15 +16,15 @@ use notation::terms::Fact;
 #[derive(Drop)]
 pub struct Index {
     items: Vec<Fact>,
-    t0: Chain,
-    t1: Chain,
-    t2: Chain,
-    t3: Chain,
-    p: Chain,
+    chains: [Chain; 5],
     ghost few: { vec_len items ≤ 65535 },
-    ghost k0: { t0.keys.items ≡ keys_at 0 (map fact_atom items.items) },
-    ghost k1: { t1.keys.items ≡ keys_at 1 (map fact_atom items.items) },
-    ghost k2: { t2.keys.items ≡ keys_at 2 (map fact_atom items.items) },
-    ghost k3: { t3.keys.items ≡ keys_at 3 (map fact_atom items.items) },
-    ghost k4: { p.keys.items ≡ keys_at 4 (map fact_atom items.items) },
+    ghost chained: { (at : ℕ) (c : Chain) → slice_get chains at ≡ Some c → IsChain (keys_at at (map fact_atom items.items)) c.first.items c.next.items },
+}
+
+// A key, in the chain by the terms at a position, or in that by predicates, which is the last.
+#[derive(Clone, Copy)]
+pub struct Route {
+    at: usize,
+    key: u16,
+    ghost within: { at < 5 },
 }

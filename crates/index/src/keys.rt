@@ -52,9 +52,5 @@ fn key(f: &Fact, at: usize) -> u16
 pub fn keys(heap: Global, facts: &[Fact], at: usize) -> Result<Vec<u16>, AllocError>
     ensures { IfOk result (λ v. v.items ≡ keys_at at (map fact_atom facts.now)) }
 {
-    let mut v = Vec::with_capacity(heap, facts.len())?;
-    for f in facts {
-        v.push(key(f, at))?;
-    }
-    Ok(v)
+    facts.iter().map(|f| key(f, at)).collect(heap)
 }

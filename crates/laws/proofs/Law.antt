@@ -13,7 +13,7 @@ use Rattle.rewriting.specs.Steps.{Query, Ref, Part, Step, Piece, in_rule, in_cop
 use Rattle.rewriting.specs.Unifiers.{OneHead}
 use Rattle.laws.specs.Law.{Opened, CallsRight, LawHolds}
 use Rattle.laws.specs.Runs.{Does, Run}
-use Rattle.rewriting.proofs.Demand.{enters_is_unifier}
+use Rattle.rewriting.proofs.Entering.{enters_is_unifier}
 use Rattle.rewriting.proofs.Judged.{strike_is_right, step_or, strike_or}
 use Rattle.rewriting.proofs.Lists.{none_in, in_cases, in_either, of_map, of_each}
 use Rattle.rewriting.proofs.NewQueries.{new_is_result}

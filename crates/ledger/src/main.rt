@@ -14,6 +14,7 @@ const MOST_READ: usize = 65537;
 const BUFFER: usize = 65536;
 
 // Reads until the input ends or the buffer is full; how much was read.
+// A loop, since a must-fail edit turns it: a reading that loses bytes would not be refused at `read_to_end`.
 fn fill(rt: &HostRuntime, buffer: &mut [u8]) -> io::Result<usize>
     ensures { IfOk result (λ n. n ≤ length buffer.old) }
 {

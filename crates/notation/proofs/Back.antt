@@ -15,17 +15,19 @@ use Rattle.notation.specs.declared.terms.Terms.TheVariants.{One, Two, Three, Fou
 use Rattle.notation.specs.declared.terms.Atom.{Atom}
 use Rattle.notation.specs.declared.words.After.{After}
 use Rattle.notation.specs.Fits.{term_fits, value_fits, terms_fit, atom_fits}
-use Rattle.notation.specs.Numbers.{starts_digit, starts_number, scan, up_to, read_number}
+use Rattle.notation.specs.Numbers.{digit, starts_digit, starts_number, scan, up_to, read_number}
 use Rattle.notation.specs.Printing.{print_term, print_value, print_terms, print_atom}
 use Rattle.notation.specs.Reading.{carry, coded, term_of, value_of, read_word, read_after, by_after, then_item, read_terms, read_byte, read_predicate, read_atom}
 use Rattle.notation.specs.Laws.{TermsReadBack, AtomsReadBack, AtomsPrintApart}
-use Rattle.notation.proofs.Fronts.{is_digit}
 
 -- ds, read from 0, gives n, whatever follows, and begins a number
 pub record Spelt (n : ℕ) (ds : List ℕ) : Type 0 where
   pub reads : n ≤ 1000 → (t : List ℕ) → scan 0 (ds ++ t) ≡ scan n t
   pub leads : 0 < n → (t : List ℕ) → starts_number (ds ++ t) ≡ true
   pub ends : (t : List ℕ) → starts_digit t ≡ false → starts_number (ds ++ t) ≡ true
+
+is_digit : (b : ℕ) → 48 ≤ b → b ≤ 57 → digit b ≡ true
+is_digit b l h = cond-true _ _ _ (le-leb 48 b l) ∙ le-leb b 57 h
 
 scan_on : (n d : ℕ) (t : List ℕ) → d ≤ 9 → n * 10 + d ≤ 1000 → scan n ((48 + d) ∷ t) ≡ scan (n * 10 + d) t
 scan_on n d t h l = cond-true _ _ _ (is_digit (48 + d) (omega arith) (omega arith)) ∙ ap (λ k. scan k t) (omega arith)

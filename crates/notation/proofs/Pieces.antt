@@ -1,53 +1,39 @@
 -- A text cut at its separators, one after another.
-use Rattle.std.proofs.Common.{◌≡◌, ℕ, suc, ◌+◌, ◌-◌, ◌<◌, ◌≤◌, Bool, true, false, cond, eqb, List, [], ◌∷◌, ◌++◌, length, get_or, take, drop, Some, None, Ok, Err, Option, Result, sym, refl, ap, ◌∙◌, append_assoc, append-nil, arith}
-use Rattle.std.proofs.lemmas.List.{drop_more, take_more, take_rest, drop_all}
-use Rattle.std.proofs.lemmas.Bool.{ne_eqb, eq-eqb, cond-true, cond-false}
+use Rattle.std.proofs.Common.{◌≡◌, ℕ, suc, ◌+◌, ◌-◌, ◌<◌, ◌≤◌, Bool, true, false, not, cond, eqb, nat_lt, List, [], ◌∷◌, ◌++◌, length, take, drop, Some, None, Ok, Err, Option, Result, sym, refl, ap, ◌∙◌, append_assoc, arith}
+use Rattle.std.proofs.lemmas.List.{take_rest}
+use Rattle.std.proofs.lemmas.Bool.Decides.{nat_tests}
 use Rattle.std.specs.Option.{option_map}
+use Rattle.std.specs.List.{position, position_or_len}
 use Rattle.notation.specs.declared.faults.LineFault.{LineFault}
 use Rattle.notation.specs.Reading.{carry}
 use Rattle.notation.specs.Lists.{cut_at, onto_pieces, pieces, every, read_list}
 
--- a text before what is cut
-abbrev pub before : List ℕ → Option (List ℕ × List ℕ) → Option (List ℕ × List ℕ)
-before l o = option_map (λ p. (l ++ p.0, p.1)) o
+-- the text cut at a place, if there is one
+abbrev parted : List ℕ → Option ℕ → Option (List ℕ × List ℕ)
+parted s o = option_map (λ i. (take i s, drop (i + 1) s)) o
 
-before_none : (o : Option (List ℕ × List ℕ)) → o ≡ before [] o
-before_none None = refl
-before_none (Some p) = refl
+-- one byte more in front, which is the separator where t is true; n other bytes stand before the next one
+cut_byte : (by b : ℕ) (s : List ℕ) (t : Bool) (n : ℕ) (o : Option (List ℕ × List ℕ)) → parted s (cond (nat_lt n (length s)) (Some n) None) ≡ o → parted (b ∷ s) (cond (nat_lt (cond (not t) (1 + n) 0) (suc (length s))) (Some (cond (not t) (1 + n) 0)) None) ≡ cond t (Some ([], s)) (option_map (λ p. (b ∷ p.0, p.1)) o)
+cut_byte by b s true n o e = ap (λ t. parted (b ∷ s) (cond t (Some 0) None)) (let some : nat_lt 0 (suc (length s)) ≡ true = grind (arith, nat_tests) in some)
+cut_byte by b s false n o e =
+    ap (λ k. parted (b ∷ s) (cond (nat_lt k (suc (length s))) (Some k) None)) (let more : 1 + n ≡ suc n = omega arith in more)
+    ∙ ap (λ t. parted (b ∷ s) (cond t (Some (suc n)) None)) (let below : nat_lt (suc n) (suc (length s)) ≡ nat_lt n (length s) = grind (arith, nat_tests) in below)
+    ∙ by_test (nat_lt n (length s))
+    ∙ ap (option_map (λ p. (b ∷ p.0, p.1))) e
+  where
+    by_test : (t : Bool) → parted (b ∷ s) (cond t (Some (suc n)) None) ≡ option_map (λ p. (b ∷ p.0, p.1)) (parted s (cond t (Some n) None))
+    by_test true = ap (λ k. Some (b ∷ take n s, drop k (b ∷ s))) (let e : suc n + 1 ≡ suc (n + 1) = omega arith in e)
+    by_test false = refl
 
-before_more : (l : List ℕ) (b : ℕ) (o : Option (List ℕ × List ℕ)) → before l (option_map (λ p. (b ∷ p.0, p.1)) o) ≡ before (l ++ b ∷ []) o
-before_more l b None = refl
-before_more l b (Some p) = ap (λ x. Some (x, p.1)) (sym (append_assoc l (b ∷ []) p.0))
+cut_position : (by : ℕ) (s : List ℕ) → parted s (position (λ b. eqb b by) s) ≡ cut_at by s
+cut_position by [] = refl
+cut_position by (b ∷ s) = cut_byte by b s (eqb b by) (position_or_len (λ b. eqb b by) s) (cut_at by s) (cut_position by s)
 
--- the first i bytes of s have no separator
-abbrev pub Passed : ℕ → ℕ → List ℕ → Type 0
-Passed by i s = cut_at by s ≡ before (take i s) (cut_at by (drop i s))
+pub cut_some : (by i : ℕ) (s : List ℕ) → position (λ b. eqb b by) s ≡ Some i → Some (take i s, take (length s - (i + 1)) (drop (i + 1) s)) ≡ cut_at by s
+cut_some by i s e = ap (λ r. Some (take i s, r)) (take_rest s (i + 1)) ∙ ap (parted s) (sym e) ∙ cut_position by s
 
-pub passed_none : (by : ℕ) (s : List ℕ) → Passed by 0 s
-passed_none by s = before_none (cut_at by s)
-
-pub passed_more : (by i : ℕ) (s : List ℕ) → i < length s → (get_or s i 0 ≡ by → ⊥) → Passed by i s → Passed by (i + 1) s
-passed_more by i s h ne p =
-    let b = get_or s i 0 in
-    let rest = cut_at by (drop (i + 1) s) in
-    p
-    ∙ ap (λ l. before (take i s) (cut_at by l)) (drop_more s i 0 h)
-    ∙ ap (before (take i s)) (cond-false _ (Some ([], drop (i + 1) s)) _ (ne_eqb b by ne))
-    ∙ before_more (take i s) b rest
-    ∙ ap (λ l. before l rest) (sym (take_more s i 0 h))
-
-pub passed_cut : (by i j : ℕ) (s : List ℕ) → j ≡ i → i < length s → get_or s i 0 ≡ by → Passed by i s → Some (take j s, take (length s - (i + 1)) (drop (i + 1) s)) ≡ cut_at by s
-passed_cut by i j s n h e p =
-    let b = get_or s i 0 in
-    sym (
-    p
-    ∙ ap (λ l. before (take i s) (cut_at by l)) (drop_more s i 0 h)
-    ∙ ap (before (take i s)) (cond-true _ _ (option_map (λ p. (b ∷ p.0, p.1)) (cut_at by (drop (i + 1) s))) (eq-eqb b by e))
-    ∙ ap (λ l. Some (l, drop (i + 1) s)) (append-nil (take i s) ∙ ap (λ k. take k s) (sym n))
-    ∙ ap (λ r. Some (take j s, r)) (sym (take_rest s (i + 1))))
-
-pub passed_all : (by i : ℕ) (s : List ℕ) → length s ≤ i → Passed by i s → None ≡ cut_at by s
-passed_all by i s h p = sym (p ∙ ap (λ l. before (take i s) (cut_at by l)) (drop_all i s h))
+pub cut_none : (by : ℕ) (s : List ℕ) → position (λ b. eqb b by) s ≡ None → None ≡ cut_at by s
+cut_none by s e = ap (parted s) (sym e) ∙ cut_position by s
 
 -- ---------------------------------------------------------------- what is cut, and the pieces
 

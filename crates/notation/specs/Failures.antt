@@ -16,3 +16,16 @@ UnlessMemory see (Err Memory) o = Unit {0}
 abbrev pub failure_up : Failure LineFault → Failure FolderFault
 failure_up Memory = Memory
 failure_up (Fault e) = Fault (InLine e)
+
+-- a fact for each variant
+abbrev pub MatchFailure : {F : Type 0} → Failure F → Type 0 → (F → Type 0) → Type 0
+MatchFailure Memory P Q = P
+MatchFailure (Fault e) P Q = Q e
+
+-- a fault, and a fact of it
+abbrev pub IsFaultAnd : {F : Type 0} → Failure F → (F → Type 0) → Type 0
+IsFaultAnd r P = MatchFailure r ⊥ P
+
+-- a fact of the fault, if it is one
+abbrev pub ForFault : {F : Type 0} → Failure F → (F → Type 0) → Type 0
+ForFault r P = (e : _) → r ≡ Fault e → P e

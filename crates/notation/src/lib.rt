@@ -3,6 +3,7 @@
 
 pub mod failures;
 pub mod faults;
+pub mod freezing;
 pub mod grades;
 pub mod laws;
 pub mod lines;

@@ -1,6 +1,5 @@
 // Lines: a key, the sign "=", and a value.
 ghost use Rattle.std.specs.Prelude.{◌≡◌};
-ghost use Rattle.std.specs.Str.{bytes_eq};
 ghost use Rattle.notation.specs.Reading.{seen};
 ghost use Rattle.notation.specs.Lines.{key_of, read_key, read_fact_line};
 
@@ -19,32 +18,23 @@ pub enum Key {
     Fact,
 }
 
-fn same(a: &[u8], b: &[u8]) -> bool
-    ensures { result ≡ bytes_eq a.now b.now }
-{
-    a == b
-}
-
 // The key of a name.
-fn key_of(name: &[u8]) -> Result<Key, LineFault>
-    ensures { result ≡ key_of name.now }
-{
-    if same(name, b"arity") {
-        Ok(Key::Arity)
-    } else if same(name, b"body") {
-        Ok(Key::Body)
-    } else if same(name, b"head") {
-        Ok(Key::Head)
-    } else if same(name, b"query") {
-        Ok(Key::Query)
-    } else if same(name, b"strike") {
-        Ok(Key::Strike)
-    } else if same(name, b"by") {
-        Ok(Key::By)
-    } else if same(name, b"fact") {
-        Ok(Key::Fact)
-    } else {
-        Err(LineFault::Unreadable)
+impl TryFrom<&[u8]> for Key {
+    type Error = LineFault;
+
+    ghost try_from_gives = { λ name r. r ≡ key_of name.now };
+
+    fn try_from(name: &[u8]) -> Result<Key, LineFault> {
+        match name {
+            b"arity" => Ok(Key::Arity),
+            b"body" => Ok(Key::Body),
+            b"head" => Ok(Key::Head),
+            b"query" => Ok(Key::Query),
+            b"strike" => Ok(Key::Strike),
+            b"by" => Ok(Key::By),
+            b"fact" => Ok(Key::Fact),
+            _ => Err(LineFault::Unreadable),
+        }
     }
 }
 
@@ -52,10 +42,8 @@ fn key_of(name: &[u8]) -> Result<Key, LineFault>
 pub fn keyed(line: &[u8]) -> Result<(Key, &[u8]), LineFault>
     ensures { seen result ≡ read_key line.now }
 {
-    let Some((name, value)) = cut(b'=', line) else {
-        return Err(LineFault::Unreadable);
-    };
-    let key = key_of(name)?;
+    let (name, value) = cut(b'=', line).ok_or(LineFault::Unreadable)?;
+    let key = Key::try_from(name)?;
     Ok((key, value))
 }
 

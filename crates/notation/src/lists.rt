@@ -1,14 +1,13 @@
 // Lists: a text cut at each separator, and each piece read whole.
-ghost use Rattle.std.specs.Prelude.{◌≡◌, ℕ, ◌<◌, ◌≤◌, List, vec_items, Result};
+ghost use Rattle.std.specs.Prelude.{◌≡◌, ℕ, List, vec_items, Result};
 ghost use Rattle.notation.specs.declared.faults.LineFault.{LineFault};
-ghost use Rattle.notation.specs.Reading.{term_of};
 ghost use Rattle.notation.specs.Failures.{UnlessMemory};
 ghost use Rattle.notation.specs.Lists.{both_seen, cut_at, read_list, whole_atom, whole_number};
 
 use crate::failures::Failure;
 use crate::faults::LineFault;
 use crate::numbers::number;
-use crate::terms::{Atom, Term};
+use crate::terms::Atom;
 use crate::words::{Word, atom};
 use std::alloc::Global;
 
@@ -16,33 +15,26 @@ use std::alloc::Global;
 pub fn cut(separator: u8, s: &[u8]) -> Option<(&[u8], &[u8])>
     ensures { both_seen result ≡ cut_at separator s.now }
 {
-    for (i, b) in s.iter().enumerate() {
-        if *b == separator {
-            return Some((&s[0..i], &s[i + 1..]));
-        }
-    }
-    None
+    let at = s.iter().position(|b| *b == separator)?;
+    Some((&s[..at], &s[at + 1..]))
 }
 
 // An atom and nothing else.
 pub fn whole<T: Word>(s: &[u8]) -> Result<Atom<T>, LineFault>
     ensures { result ≡ whole_atom T.word_of s.now }
 {
-    let (a, rest) = atom(s)?;
-    if rest.is_empty() {
-        Ok(a)
-    } else {
-        Err(LineFault::Unreadable)
+    match atom(s)? {
+        (a, []) => Ok(a),
+        _ => Err(LineFault::Unreadable),
     }
 }
 
 // A number from `least` to `most` and nothing else.
 fn bounded(least: u16, most: u16, s: &[u8]) -> Result<u16, LineFault>
-    requires { most < 1000 }
     ensures { result ≡ whole_number least most s.now }
 {
     match number(most, s) {
-        Some((n, rest)) if least <= n && rest.is_empty() => Ok(n),
+        Some((n, [])) if least <= n => Ok(n),
         _ => Err(LineFault::Unreadable),
     }
 }
@@ -55,11 +47,11 @@ pub trait Item: Copy {
         ensures { result ≡ item_of s.now };
 }
 
-// An atom of a query or a rule.
-impl Item for Atom<Term> {
-    ghost item_of = { whole_atom term_of };
+// An atom, of either kind of term.
+impl<T: Word> Item for Atom<T> {
+    ghost item_of = { whole_atom T.word_of };
 
-    fn read(s: &[u8]) -> Result<Atom<Term>, LineFault> {
+    fn read(s: &[u8]) -> Result<Atom<T>, LineFault> {
         whole(s)
     }
 }
@@ -87,6 +79,7 @@ pub fn list<T: Item>(heap: Global, separator: u8, s: &[u8]) -> Result<Vec<T>, Fa
 {
     let mut items = Vec::new(heap);
     let mut left = s;
+    // No `for` over `split`: in a generic function no loop over an iterator that holds a closure can be stated yet.
     while let Some((piece, rest)) = cut(separator, left) {
         items.push(T::read(piece)?)?;
         left = rest;

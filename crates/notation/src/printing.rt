@@ -44,8 +44,6 @@ impl<T: fmt::Display> fmt::Display for Atom<T> {
     ghost output = { show_atom T.Display.output };
 
     fn fmt<W: fmt::Write>(&self, f: &mut fmt::Formatter<W>) -> fmt::Result {
-        let p = self.predicate;
-        let terms = &self.terms;
-        write!(f, "p{p}({terms})")
+        write!(f, "p{}({})", self.predicate, self.terms)
     }
 }

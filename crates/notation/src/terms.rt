@@ -1,4 +1,5 @@
 // Terms, atoms, facts and ties.
+ghost use Rattle.std.specs.List.{AllZip};
 
 // A term of a query or a rule.
 #[derive(Clone, Copy, PartialEq, Eq)]
@@ -21,6 +22,23 @@ pub enum Terms<T> {
     Two(T, T),
     Three(T, T, T),
     Four(T, T, T, T),
+}
+
+impl<T> Terms<T> {
+    ghost use Rattle.notation.specs.Logic.{terms_of};
+
+    // Each of the terms changed, in their order.
+    pub fn map<U, F: Fn(T) -> U>(self, change: F) -> Terms<U>
+        requires { F.IsAlwaysCallable change }
+        ensures { AllZip (F.post change) (terms_of self) (terms_of result) }
+    {
+        match self {
+            Terms::One(a) => Terms::One(change(a)),
+            Terms::Two(a, b) => Terms::Two(change(a), change(b)),
+            Terms::Three(a, b, c) => Terms::Three(change(a), change(b), change(c)),
+            Terms::Four(a, b, c, d) => Terms::Four(change(a), change(b), change(c), change(d)),
+        }
+    }
 }
 
 // A predicate with its terms.

@@ -1,5 +1,5 @@
 // Terms and atoms, read from the front of a text.
-ghost use Rattle.std.specs.Prelude.{◌≡◌, ℕ, ◌<◌, ◌≤◌, Result};
+ghost use Rattle.std.specs.Prelude.{◌≡◌, ℕ, ◌<◌, Result};
 ghost use Rattle.notation.specs.declared.faults.TermFault.{TermFault};
 ghost use Rattle.notation.specs.Numbers.{read_number};
 ghost use Rattle.notation.specs.Reading.{seen, coded, read_term, code_fault, term_of, value_of, read_word, read_after, item_seen, read_item, read_terms, text_seen, read_byte, read_predicate, read_atom};
@@ -15,7 +15,7 @@ const BAD_NUMBER: u16 = 4001;
 
 // The number after a term's letter, as a code from `base` on.
 fn code(base: u16, most: u16, s: &[u8]) -> (u16, &[u8])
-    requires { (base < 3000) × (most < 1000) }
+    requires { base < 3000 }
     ensures { (result.0, result.1.now) ≡ coded base (read_number most s.now) s.now }
 {
     match number(most, s) {
@@ -25,6 +25,7 @@ fn code(base: u16, most: u16, s: &[u8]) -> (u16, &[u8])
 }
 
 // The code of the term at the front of `s`, and the text after it; a code above all terms tells a fault.
+// The leaf reader answers a plain pair of a code and the text after it: a rule of the project.
 fn read_term(s: &[u8]) -> (u16, &[u8])
     ensures { (result.0, result.1.now) ≡ read_term s.now }
 {
@@ -152,10 +153,8 @@ fn byte(b: u8, s: &[u8]) -> Result<&[u8], AtomFault>
 fn predicate(s: &[u8]) -> Result<(u8, &[u8]), AtomFault>
     ensures { seen result ≡ read_predicate (read_number 31 s.now) }
 {
-    match number(31, s) {
-        Some((n, rest)) => Ok((n as u8, rest)),
-        None => Err(AtomFault::Broken),
-    }
+    let (n, rest) = number(31, s).ok_or(AtomFault::Broken)?;
+    Ok((n as u8, rest))
 }
 
 // The atom at the front of `s`, and the text after it.

@@ -1,13 +1,15 @@
 -- Atoms with no fault make a query.
-use Rattle.std.proofs.Common.{◌≡◌, ℕ, ◌≤◌, Bool, true, false, cond, ◌&&◌, ltb, leb, List, [], ◌∷◌, length, is_some, is_ok, Some, None, Ok, Err, Option, Result, refl, ap, ◌∙◌}
+use Rattle.std.proofs.Common.{◌≡◌, ℕ, ◌≤◌, Bool, true, false, cond, ◌&&◌, ltb, leb, List, [], ◌∷◌, length, is_some, is_ok, Some, None, Ok, Err, Option, Result, sym, refl, ap, ◌∙◌}
 use Rattle.std.proofs.lemmas.Bool.{and_from, and_parts, leb-true, eq-eqb, eqb-true, false≢true}
 use Rattle.notation.specs.declared.faults.AtomFault.TheVariants.{InTerm, Broken, Repeated}
+use Rattle.notation.specs.declared.faults.LineFault.{LineFault}
 use Rattle.notation.specs.declared.faults.LineFault.TheVariants.{InAtom, TooMany}
 use Rattle.notation.specs.declared.faults.TermFault.TheVariants.{BadNumber, Misnumbered}
 use Rattle.notation.specs.declared.terms.Atom.{Atom}
 use Rattle.notation.specs.declared.terms.Term.{Term}
 use Rattle.notation.specs.Fits.{term_fits, terms_fit}
 use Rattle.notation.specs.Reading.{carry}
+use Rattle.queries.specs.declared.checks.Scope.{Scope}
 use Rattle.queries.specs.Checks.{all_terms, each, ranged, listed, numbered, next_is, distinct, atoms_all_fit, fine, valid, if_so, if_some, check_atoms}
 
 -- what follows an answer is reached only if the answer is no fault
@@ -64,3 +66,7 @@ next_from_some o n e = ap (λ p. next_is p n) e ∙ eq-eqb n n refl
 pub some_from_next : (o : Option ℕ) (n : ℕ) → next_is o n ≡ true → o ≡ Some n
 some_from_next (Some m) n h = ap Some (eqb-true m n h)
 some_from_next None n h = absurd (false≢true h)
+
+-- what was answered for atoms in a new scope
+pub at_scope : (most : ℕ) {k n : ℕ} {s : Scope} (arity : List ℕ) (as' : List (Atom Term)) {o : Result ℕ LineFault} → s ≡ record { known = k; start = n; next = n } → check_atoms most s.known s.start s.next arity as' ≡ o → check_atoms most k n n arity as' ≡ o
+at_scope most arity as' is e = ap (λ (x : Scope). check_atoms most x.known x.start x.next arity as') (sym is) ∙ e

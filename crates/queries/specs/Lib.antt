@@ -1,7 +1,10 @@
+pub mod Atoms
 pub mod Checks
 pub mod Heads
 pub mod Laws
 pub mod Printing
 pub mod Queries
+pub mod Rows
 pub mod RuleChecks
 pub mod Rules
+pub mod Scopes

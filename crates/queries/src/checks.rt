@@ -1,9 +1,11 @@
 // What a list of atoms has to meet to be a query.
-ghost use Rattle.std.specs.Prelude.{◌≡◌, ℕ, ◌<◌, ◌≤◌, List, [], ◌∷◌, length, Err};
+ghost use Rattle.std.specs.Prelude.{◌≡◌, ℕ, ◌<◌, ◌≤◌, List, [], ◌∷◌, length, Ok, Err, IfOk, IfErr};
 ghost use Rattle.notation.specs.Fits.{term_fits, terms_fit};
 ghost use Rattle.notation.specs.Logic.{terms_of};
-ghost use Rattle.queries.specs.Checks.{atom_terms, all_terms, each, ranged, listed as is_listed, numbered, same_atom, among as is_among, distinct as is_distinct, check_atoms};
+ghost use Rattle.queries.specs.Atoms.{held};
+ghost use Rattle.queries.specs.Checks.{each, ranged, listed as is_listed, distinct as is_distinct, check_atoms};
 
+use crate::atoms::Atoms;
 use notation::faults::{AtomFault, LineFault, TermFault};
 use notation::terms::{Atom, Term, Terms};
 
@@ -16,6 +18,7 @@ fn fits(t: Term) -> bool
     }
 }
 
+// Arm by arm: of all terms nothing else is asked, and a method that takes the test would be no plainer.
 fn all_fit(ts: Terms<Term>) -> bool
     ensures { result ≡ terms_fit term_fits ts }
 {
@@ -64,16 +67,14 @@ fn count(ts: Terms<Term>) -> u8
 fn listed(arity: &[u8], a: Atom<Term>) -> Result<(), AtomFault>
     ensures { result ≡ is_listed arity.now a }
 {
-    let p = a.predicate as usize;
-    if p >= arity.len() {
-        return Err(AtomFault::Unlisted);
+    match arity.get(a.predicate as usize) {
+        None => Err(AtomFault::Unlisted),
+        Some(n) if *n == count(a.terms) => Ok(()),
+        Some(_) => Err(AtomFault::WrongCount),
     }
-    if arity[p] != count(a.terms) {
-        return Err(AtomFault::WrongCount);
-    }
-    Ok(())
 }
 
+// Apart from `all_in_range`: `try_for_each` was tried in place of both loops, and its goal stayed open.
 fn all_listed(arity: &[u8], atoms: &[Atom<Term>]) -> Result<(), AtomFault>
     ensures { result ≡ each (is_listed arity.now) atoms.now }
 {
@@ -86,101 +87,67 @@ fn all_listed(arity: &[u8], atoms: &[Atom<Term>]) -> Result<(), AtomFault>
 // Which variables atoms may have: the first `known`, those from `start` on that have appeared, and `next`.
 #[derive(Clone, Copy)]
 pub(crate) struct Scope {
-    pub known: usize,
-    pub start: usize,
-    pub next: usize,
+    known: usize,
+    start: usize,
+    next: usize,
 }
 
-// The next variable after `t`; none where a number is passed over or not allowed.
-fn seen(scope: Scope, t: Term) -> Option<usize>
-    ensures { result ≡ numbered scope.known scope.start scope.next (t ∷ []) }
-{
-    match t {
-        Term::Constant(_) => Some(scope.next),
-        Term::Variable(v) => {
-            let v = v as usize;
-            if v < scope.known || scope.start <= v && v < scope.next {
-                Some(scope.next)
-            } else if v == scope.next {
-                Some(v + 1)
-            } else {
-                None
-            }
+impl Scope {
+    ghost use Rattle.queries.specs.Checks.{numbered, atom_terms, all_terms};
+    ghost use Rattle.queries.specs.Scopes.{scope_after};
+
+    // Where none has appeared from `next` on.
+    pub(crate) fn new(known: usize, next: usize) -> Scope
+        ensures { result ≡ record { known = known; start = next; next = next } }
+    {
+        Scope {
+            known,
+            start: next,
+            next,
         }
     }
-}
 
-fn through(scope: Scope, a: Atom<Term>) -> Option<usize>
-    ensures { result ≡ numbered scope.known scope.start scope.next (atom_terms a) }
-{
-    match a.terms {
-        Terms::One(t) => seen(scope, t),
-        Terms::Two(t, u) => seen(
-            Scope {
-                next: seen(scope, t)?,
-                ..scope
-            },
-            u,
-        ),
-        Terms::Three(t, u, v) => {
-            let scope = Scope {
-                next: seen(scope, t)?,
-                ..scope
-            };
-            seen(
-                Scope {
-                    next: seen(scope, u)?,
-                    ..scope
-                },
-                v,
-            )
-        }
-        Terms::Four(t, u, v, w) => {
-            let scope = Scope {
-                next: seen(scope, t)?,
-                ..scope
-            };
-            let scope = Scope {
-                next: seen(scope, u)?,
-                ..scope
-            };
-            seen(
-                Scope {
-                    next: seen(scope, v)?,
-                    ..scope
-                },
-                w,
-            )
+    // The scope after a term; none where a number is passed over or not allowed.
+    fn after(self, t: Term) -> Option<Scope>
+        ensures { result ≡ scope_after self (t ∷ []) }
+    {
+        let Term::Variable(v) = t else {
+            return Some(self);
+        };
+        let v = v as usize;
+        if v < self.known || self.start <= v && v < self.next {
+            Some(self)
+        } else if v == self.next {
+            Some(Scope {
+                next: v + 1,
+                ..self
+            })
+        } else {
+            None
         }
     }
-}
 
-// The next variable after the atoms; none where they are misnumbered.
-fn variables(scope: Scope, atoms: &[Atom<Term>]) -> Option<usize>
-    ensures { result ≡ numbered scope.known scope.start scope.next (all_terms atoms.now) }
-{
-    let mut next = scope.next;
-    for a in atoms {
-        next = through(Scope { next, ..scope }, *a)?;
-    }
-    Some(next)
-}
-
-fn same(a: Atom<Term>, b: Atom<Term>) -> bool
-    ensures { result ≡ same_atom a b }
-{
-    a == b
-}
-
-fn among(a: Atom<Term>, atoms: &[Atom<Term>]) -> bool
-    ensures { result ≡ is_among a atoms.now }
-{
-    for b in atoms {
-        if same(a, *b) {
-            return true;
+    fn after_atom(self, a: Atom<Term>) -> Option<Scope>
+        ensures { result ≡ scope_after self (atom_terms a) }
+    {
+        match a.terms {
+            Terms::One(t) => self.after(t),
+            Terms::Two(t, u) => self.after(t)?.after(u),
+            Terms::Three(t, u, v) => self.after(t)?.after(u)?.after(v),
+            Terms::Four(t, u, v, w) => self.after(t)?.after(u)?.after(v)?.after(w),
         }
     }
-    false
+
+    // The next variable after the atoms; none where they are misnumbered.
+    fn variables(self, atoms: &[Atom<Term>]) -> Option<usize>
+        ensures { result ≡ numbered self.known self.start self.next (all_terms atoms.now) }
+    {
+        let mut scope = self;
+        for a in atoms {
+            scope = scope.after_atom(*a)?;
+        }
+        Some(scope.next)
+    }
 }
 
 // No atom occurs twice.
@@ -188,38 +155,39 @@ fn distinct(atoms: &[Atom<Term>]) -> bool
     ensures { result ≡ is_distinct atoms.now }
 {
     for (i, a) in atoms.iter().enumerate() {
-        if among(*a, &atoms[i + 1..]) {
+        if atoms[i + 1..].contains(a) {
             return false;
         }
     }
     true
 }
 
-// The next variable after the atoms, of which there may be `most`, or their first fault; `arity` lists the numbers of
-// terms of p0, p1 and so on.
-pub(crate) fn check(
-    most: usize,
+// The atoms, of which there may be N, and the next variable after them, or their first fault; `arity` lists the numbers
+// of terms of p0, p1 and so on.
+pub(crate) fn checked<const N: usize>(
     scope: Scope,
     arity: &[u8],
     atoms: &[Atom<Term>],
-) -> Result<usize, LineFault>
-    ensures { result ≡ check_atoms most scope.known scope.start scope.next arity.now atoms.now }
+) -> Result<(Atoms<N>, usize), LineFault>
+    ensures held { IfOk result (λ p. held p.0 ≡ atoms.now) }
+    ensures next { IfOk result (λ p. check_atoms N scope.known scope.start scope.next arity.now atoms.now ≡ Ok p.1) }
+    ensures fault { IfErr result (λ e. check_atoms N scope.known scope.start scope.next arity.now atoms.now ≡ Err e) }
 {
     if atoms.is_empty() {
         return Err(LineFault::InAtom(AtomFault::Broken));
     }
     all_in_range(atoms)?;
-    if atoms.len() > most {
+    if atoms.len() > N {
         return Err(LineFault::TooMany);
     }
     all_listed(arity, atoms)?;
-    let Some(next) = variables(scope, atoms) else {
+    let Some(next) = scope.variables(atoms) else {
         return Err(LineFault::InAtom(AtomFault::InTerm(TermFault::Misnumbered)));
     };
     if !distinct(atoms) {
         return Err(LineFault::InAtom(AtomFault::Repeated));
     }
-    Ok(next)
+    Ok((Atoms::of(atoms), next))
 }
 
 // The fault of atoms for which there is no room, whatever numbers of terms are listed.

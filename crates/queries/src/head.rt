@@ -1,14 +1,20 @@
 // The head of a rule.
-pub mod parts;
-
-ghost use Rattle.std.specs.Prelude.{◌≤◌};
-
+use crate::atoms::Atoms;
 use notation::terms::{Atom, Term};
 
-// One to four atoms; the first `count` count, the others say nothing.
+// At most four atoms.
 #[derive(Clone, Copy)]
 pub struct Head {
-    pub(crate) atoms: [Atom<Term>; 4],
-    pub(crate) count: usize,
-    ghost within: { count ≤ 4 },
+    pub(crate) atoms: Atoms<4>,
+}
+
+impl Head {
+    ghost use Rattle.std.specs.Prelude.{◌≡◌};
+    ghost use Rattle.queries.specs.Heads.{head_atoms};
+
+    pub fn atoms(&self) -> &[Atom<Term>]
+        ensures { result.now ≡ head_atoms self.now }
+    {
+        self.atoms.as_slice()
+    }
 }

@@ -1,18 +1,18 @@
 -- Names are noted and shown as entries are, one after the other, and keep their numbers.
-use Rattle.std.proofs.Common.{◌≡◌, ℕ, suc, ◌+◌, ◌-◌, ◌*◌, ◌<◌, ◌≤◌, Bool, true, false, cond, ◌||◌, T, eqb, ltb, List, [], ◌∷◌, ◌++◌, map, length, take, set, None, Option, sym, refl, ap, ◌∙◌, subst, ap₂, inl, inr, ⊎_elim, append_assoc, append-nil, arith}
-use Rattle.std.proofs.lemmas.List.{map-append, length-map, length_push, length-take-le, take_more_set}
+use Rattle.std.proofs.Common.{◌≡◌, ℕ, suc, ◌+◌, ◌*◌, ◌<◌, ◌≤◌, Bool, true, false, cond, ◌||◌, T, eqb, ltb, List, [], ◌∷◌, ◌++◌, map, length, Some, None, Option, sym, refl, ap, ◌∙◌, subst, ap₂, inl, inr, ⊎_elim, append_assoc, append-nil, arith}
+use Rattle.std.specs.List.{position, position_or_len}
+use Rattle.std.proofs.lemmas.List.Recursion.{is_position_or_len}
+use Rattle.std.proofs.lemmas.List.{map-append, length-map, length_push}
 use Rattle.std.proofs.lemmas.Bool.{cond-true, cond-false, lt-ltb, le-ltb, eq-eqb, ne_eqb, cases_lt, ltb-false}
-use Rattle.notation.specs.declared.terms.Term.{Term as WrittenTerm}
-use Rattle.notation.specs.declared.terms.Terms.{Terms}
-use Rattle.rewriting.specs.declared.steps.Owner.{Owner}
 use Rattle.notation.specs.declared.terms.Term.TheVariants.{Constant, Variable}
 use Rattle.notation.specs.Logic.{var, In, here, there, as_term}
 use Rattle.rewriting.specs.Classes.{same_ref}
 use Rattle.rewriting.specs.Computing.{any}
-use Rattle.rewriting.specs.Drafts.{first_place, entries_of, noted, noted_all, shown, shown_all, ShownTerms}
+use Rattle.rewriting.specs.Drafts.{first_place, noted, noted_all, shown, shown_all}
 use Rattle.rewriting.specs.Judging.{order_from, place_of, numbered}
 use Rattle.rewriting.specs.Steps.{Ref, fixed, own, copy, once}
 use Rattle.rewriting.specs.Tables.{place, Within}
+use Rattle.rewriting.proofs.Turns.{any_append}
 use Rattle.rewriting.proofs.Lists.{by_test, none_in, in_cases, in_either, ref_eq, ref_refl}
 
 -- ---------------------------------------------------------------- entries
@@ -32,50 +32,42 @@ shown_constant ns e h = cond-true _ _ _ (lt-ltb e 1000 h)
 pub shown_variable : (ns : List ℕ) (e : ℕ) → 1000 ≤ e → shown ns e ≡ Variable (first_place e ns)
 shown_variable ns e h = cond-false _ _ _ (le-ltb e 1000 h)
 
-noted_length : (ns : List ℕ) (e : ℕ) → length ns ≤ length (noted ns e)
-noted_length ns e = by_test (λ v. length ns ≤ length v) (ltb e 1000) ns _ (λ t. omega arith)
-    (λ t. by_test (λ v. length ns ≤ length v) (ltb (first_place e ns) (length ns)) ns (ns ++ e ∷ []) (λ u. omega arith) (λ u. let p = length_push ns e in omega arith))
+-- where e is looked for among the entries
+first_is : (e : ℕ) (ns : List ℕ) → position_or_len (λ n. eqb n e) ns ≡ first_place e ns
+first_is e ns = sym (is_position_or_len (first_place e) (λ n. eqb n e) refl (λ n ms. ap (cond (eqb n e) 0) (omega arith)) ns)
 
--- too many stay too many
-pub over_stays : (ns es : List ℕ) → 32 < length ns → 32 < length (noted_all ns es)
-over_stays ns [] h = h
-over_stays ns (e ∷ es) h = let p = noted_length ns e in over_stays (noted ns e) es (omega arith)
+first_inside : (e : ℕ) (ns : List ℕ) → first_place e ns ≤ length ns
+first_inside e [] = omega arith
+first_inside e (n ∷ ns) = by_test (λ k. k ≤ length (n ∷ ns)) (eqb n e) 0 (suc (first_place e ns)) (λ t. omega arith) (λ t. let h = first_inside e ns in omega arith)
 
--- there are too many where a term is the 33rd variable, whatever comes after it
-pub broken_off : (r : Option (Terms WrittenTerm)) (t : List ℕ) (o : Owner) (ts us : Terms WrittenTerm) (ns ms : List ℕ) → r ≡ None → ts ≡ us → 32 < length (noted_all ns (entries_of t o us)) → ShownTerms r (entries_of t o ts) ns ms
-broken_off r t o ts us ns ms none is h =
-    subst (λ (v : Option (Terms WrittenTerm)). ShownTerms v (entries_of t o ts) ns ms) (sym none) (subst (λ v. 32 < length (noted_all ns (entries_of t o v))) (sym is) h)
+module _ (e : ℕ) (ns : List ℕ) (big : 1000 ≤ e) where
+  position_is : position (λ n. eqb n e) ns ≡ cond (ltb (first_place e ns) (length ns)) (Some (first_place e ns)) None
+  position_is = ap (λ k. cond (ltb k (length ns)) (Some k) None) (first_is e ns)
 
--- the first v of the entries have variables, and e stands at k among these
-module _ (entries : List ℕ) (v k e : ℕ) (long : length entries ≡ 32) (few : v ≤ 32) (at_k : k ≡ first_place e (take (v - 0) entries)) (big : 1000 ≤ e) where
-  place_is : k ≡ first_place e (take v entries)
-  place_is = subst (λ n. k ≡ first_place e (take n entries)) (same v) at_k
-    where
-      same : (n : ℕ) → n - 0 ≡ n
-      same n = omega arith
+  -- it stands at k
+  pub found : (k : ℕ) → position (λ n. eqb n e) ns ≡ Some k → (Variable k ≡ shown ns e) × (ns ≡ noted ns e)
+  found k is =
+      ⊎_elim
+      (λ l. let at_k : Some k ≡ Some (first_place e ns) = sym is ∙ position_is ∙ cond-true _ _ _ (lt-ltb _ _ l) in let same : k ≡ first_place e ns = cc in (ap Variable same ∙ sym (shown_variable ns e big), sym (noted_old ns e big l)))
+      (λ l. let none : ◌≡◌ {A = Option ℕ} (Some k) None = sym is ∙ position_is ∙ cond-false _ _ _ (le-ltb _ _ l) in absurd (cc))
+      (cases_lt (first_place e ns) (length ns))
 
-  pub variable_is : Variable k ≡ shown (take v entries) e
-  variable_is = ap Variable place_is ∙ sym (shown_variable (take v entries) e big)
+  -- it does not
+  module _ (is : position (λ n. eqb n e) ns ≡ None) where
+    past : length ns ≤ first_place e ns
+    past = ⊎_elim
+        (λ l. let some : ◌≡◌ {A = Option ℕ} None (Some (first_place e ns)) = sym is ∙ position_is ∙ cond-true _ _ _ (lt-ltb _ _ l) in absurd (cc))
+        (λ l. l)
+        (cases_lt (first_place e ns) (length ns))
 
-  pub new_noted : k ≡ v → k < 32 → take (k + 1) (set entries k e) ≡ noted (take v entries) e
-  new_noted is lt =
-      let count = length-take-le v entries (omega arith) in
-      let p = place_is in
-      take_more_set entries k e (omega arith) ∙ ap (λ n. take n entries ++ e ∷ []) is ∙ sym (noted_new (take v entries) e big (omega arith))
+    pub new_shown : Variable (length ns) ≡ shown ns e
+    new_shown = let h = first_inside e ns in let p = past in ap Variable (omega arith) ∙ sym (shown_variable ns e big)
 
-  pub old_noted : (k ≡ v → ⊥) → k ≤ length (take (v - 0) entries) → take v entries ≡ noted (take v entries) e
-  old_noted other inside =
-      let count = length-take-le v entries (omega arith) in
-      let count' = length-take-le (v - 0) entries (omega arith) in
-      let p = place_is in
-      sym (noted_old (take v entries) e big (omega arith))
+    pub new_noted : ns ++ e ∷ [] ≡ noted ns e
+    new_noted = sym (noted_new ns e big past)
 
-  pub too_many : k ≡ v → k ≡ 32 → 32 < length (noted (take v entries) e)
-  too_many is full =
-      let count = length-take-le v entries (omega arith) in
-      let p = place_is in
-      let q = ap length (noted_new (take v entries) e big (omega arith)) ∙ length_push (take v entries) e in
-      omega arith
+    pub too_many : length ns ≡ 32 → 32 < length (noted ns e)
+    too_many full = let q = ap length (noted_new ns e big past) ∙ length_push ns e in omega arith
 
 -- ---------------------------------------------------------------- one after the other
 
@@ -92,14 +84,6 @@ or_swap true true = refl
 or_swap true false = refl
 or_swap false true = refl
 or_swap false false = refl
-
-or_assoc : (a b d : Bool) → ((a || b) || d) ≡ (a || (b || d))
-or_assoc true b d = refl
-or_assoc false b d = refl
-
-any_append : {X : Type 0} (p : X → Bool) (xs ys : List X) → any p (xs ++ ys) ≡ (any p xs || any p ys)
-any_append p [] ys = refl
-any_append p (x ∷ xs) ys = ap (λ b. p x || b) (any_append p xs ys) ∙ sym (or_assoc (p x) (any p xs) (any p ys))
 
 or_none : (b : Bool) → (b || false) ≡ b
 or_none true = refl

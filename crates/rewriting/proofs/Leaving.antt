@@ -3,12 +3,10 @@ use Rattle.std.proofs.Common.{◌≡◌, ℕ, suc, ◌+◌, ◌<◌, Bool, true,
 use Rattle.std.proofs.lemmas.List.{map-append, length-map, length-take-le, take_more, take-append-drop}
 use Rattle.std.proofs.lemmas.Bool.{cond-true, cond-false}
 use Rattle.notation.specs.declared.terms.Term.{Term as WrittenTerm}
-use Rattle.notation.specs.declared.terms.Term.TheVariants.{Constant}
-use Rattle.notation.specs.declared.terms.Terms.TheVariants.{One}
 use Rattle.notation.specs.declared.terms.Atom.{Atom as WrittenAtom}
 use Rattle.notation.specs.Logic.{Atom, rename, query_atom}
 use Rattle.rewriting.specs.declared.draft.Draft.{Draft}
-use Rattle.rewriting.specs.declared.rows.Row.{Row}
+use Rattle.queries.specs.declared.row.Row.{Row}
 use Rattle.rewriting.specs.declared.steps.Owner.{Owner}
 use Rattle.rewriting.specs.declared.steps.Owner.TheVariants as owner
 use Rattle.rewriting.specs.declared.steps.Part.{Part as WrittenPart}
@@ -24,9 +22,6 @@ use Rattle.rewriting.proofs.OneMore.{drafted_small}
 -- ---------------------------------------------------------------- one addition after the other
 
 module _ (t : List ℕ) where
-  pub adds_none : (d : Draft) → Adds true t [] d d
-  adds_none d f ls known has = subst (λ v. Drafted f v d) (sym (append-nil ls)) has
-
   pub adds_then : (r : Bool) (xs ys : List (Atom Ref)) (d e g : Draft) → Adds true t xs d e → Adds r t ys e g → Adds r t (xs ++ ys) d g
   adds_then r xs ys d e g p q f ls known has = subst (λ v. Added r f v g) (append_assoc ls xs ys) (q f (ls ++ xs) known (p f ls known has))
 
@@ -53,10 +48,6 @@ off_append {X} ns i (x ∷ xs) ys = go (member i ns) (off_append ns (suc i) xs y
         cond b (off_numbers ns (suc i) (xs ++ ys)) (x ∷ off_numbers ns (suc i) (xs ++ ys)) ≡ cond b (off_numbers ns (suc i) xs) (x ∷ off_numbers ns (suc i) xs) ++ off_numbers ns (i + suc (length xs)) ys
     go true e = e
     go false e = ap (λ v. x ∷ v) e
-
--- what is read past the end
-abbrev pub no_atom : WrittenAtom WrittenTerm
-no_atom = record { predicate = 0; terms = One (Constant 0) }
 
 -- the owner's atoms that are not taken
 abbrev pub untaken : Owner → List ℕ → List (WrittenAtom WrittenTerm) → List (Atom Ref)

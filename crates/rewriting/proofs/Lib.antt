@@ -6,6 +6,7 @@ pub mod Fitting
 pub mod Named
 pub mod Sound
 pub mod Apart
+pub mod Arrays
 pub mod Results
 pub mod Numbering
 pub mod Sounding
@@ -13,11 +14,12 @@ pub mod Judged
 pub mod Questions
 pub mod Alike
 pub mod Unifiers
-pub mod Demand
+pub mod Entering
 pub mod NewQueries
 pub mod Ranged
 pub mod Turns
 pub mod Sides
+pub mod StepTerms
 pub mod PartsRead
 pub mod Parted
 pub mod Placed

@@ -1,7 +1,5 @@
 -- Numbers of places, and dropping what has occurred.
-use Rattle.std.proofs.Common.{◌≡◌, ℕ, zero, suc, ◌<◌, ◌≤◌, min, Bool, true, false, T, ◌⊎◌, List, [], ◌∷◌, ◌++◌, length, get_or, take, sym, refl, ap, ◌∙◌, subst, inl, inr, ⊎_elim, arith}
-use Rattle.std.proofs.lemmas.List.{take_all}
-use Rattle.std.proofs.lemmas.Bool.{cases_lt}
+use Rattle.std.proofs.Common.{◌≡◌, ℕ, zero, suc, ◌<◌, ◌≤◌, Bool, true, false, T, ◌⊎◌, List, [], ◌∷◌, ◌++◌, length, get_or, sym, refl, ap, subst, inl, inr, ⊎_elim, arith}
 use Rattle.notation.specs.Logic.{Term, Atom, In, here, there}
 use Rattle.rewriting.specs.Computing.{any, same_term, same_atom}
 use Rattle.rewriting.specs.Steps.{nth, once}
@@ -70,7 +68,3 @@ pub nth_past : {X : Type 0} (k : ℕ) (xs : List X) → length xs ≤ k → nth 
 nth_past k [] h = refl
 nth_past zero (x ∷ xs) h = absurd (omega arith)
 nth_past (suc k) (x ∷ xs) h = nth_past k xs (omega arith)
-
--- no more than the whole is taken
-pub take_least : {X : Type 0} (n m r : ℕ) (xs : List X) → r ≡ min n m → length xs ≡ m → take r xs ≡ take n xs
-take_least n m r xs is long = elim (cases_lt n m) [ inl l ↦ ap (λ i. take i xs) (omega arith) | inr l ↦ take_all r xs (omega arith) ∙ sym (take_all n xs (omega arith)) ]

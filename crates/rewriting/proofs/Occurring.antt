@@ -1,16 +1,15 @@
 -- Where variables occur in the atoms of a part, and which terms may stand with an unnamed variable.
-use Rattle.std.proofs.Common.{◌≡◌, ℕ, suc, ◌+◌, ◌-◌, ◌*◌, ◌<◌, Bool, true, false, cond, not, ◌&&◌, ◌||◌, T, eqb, ltb, leb, List, [], ◌∷◌, map, length, get_or, drop, sym, refl, ap, ◌∙◌, subst, ap₂, ⊎_elim, add-one, arith}
-use Rattle.std.proofs.lemmas.List.{at_drop_more}
+use Rattle.std.proofs.Common.{◌≡◌, ℕ, ◌+◌, ◌-◌, ◌*◌, ◌<◌, Bool, true, false, not, ◌&&◌, ◌||◌, T, eqb, ltb, leb, List, [], ◌∷◌, map, get_or, sym, refl, ap, ◌∙◌, subst, ap₂, ⊎_elim, arith}
 use Rattle.std.proofs.lemmas.Bool.{eq-eqb, ne_eqb, le-leb, lt-leb, lt-ltb, le-ltb, and_left, and_right, cases_order, cases_Bool}
 use Rattle.notation.specs.declared.terms.Term.{Term as WrittenTerm}
 use Rattle.notation.specs.declared.terms.Atom.{Atom as WrittenAtom}
-use Rattle.notation.specs.Logic.{Term, con, var, Atom, at, In, rename, terms, query_atom}
+use Rattle.notation.specs.Logic.{Term, con, var, Atom, at, In, rename, terms}
 use Rattle.queries.specs.Checks.{atoms_all_fit}
 use Rattle.rewriting.specs.declared.steps.Owner.TheVariants as owner
 use Rattle.rewriting.specs.Classes.{same_ref, name_in, classes}
 use Rattle.rewriting.specs.Computing.{same_term, any}
 use Rattle.rewriting.specs.Judging.{has_ref, may_join}
-use Rattle.rewriting.specs.Occurring.{mentions, occurs, only_at, may_stand, AllMayStand}
+use Rattle.rewriting.specs.Occurring.{occurs, only_at, may_stand, AllMayStand}
 use Rattle.rewriting.specs.Steps.{Query, Ref, fixed, own, copy, in_copy, Part, piece, Ties, member, at_numbers, off_numbers, vars, is_copy, unnamed_of}
 use Rattle.rewriting.specs.Tables.{place, Within, Names, TiesWithin}
 use Rattle.rewriting.specs.Written.{logic_atoms, ref_of}
@@ -20,36 +19,7 @@ use Rattle.rewriting.proofs.Lists.{in_map, member_in, in_member, of_vars, drop_k
 use Rattle.rewriting.proofs.Placed.{place_below, place_one, same_place, at_place, within_or, outside}
 use Rattle.rewriting.proofs.Ranged.{atoms_within}
 use Rattle.rewriting.proofs.Search.{true_T, T_true}
-use Rattle.rewriting.proofs.Sides.{no_atom}
 use Rattle.rewriting.proofs.Turns.{any_append}
-
--- ---------------------------------------------------------------- one atom more
-
-pub occurs_more : (v i : ℕ) (xs : List (WrittenAtom WrittenTerm)) → i < length xs →
-    occurs v (logic_atoms (drop i xs)) ≡ (mentions v (query_atom (get_or xs i no_atom)) || occurs v (logic_atoms (drop (i + 1) xs)))
-occurs_more v i xs h = at_drop_more (λ l. occurs v (logic_atoms l)) xs i no_atom h
-
-any_kept : {X : Type 0} (f : X → Bool) (b : Bool) (x : X) (xs : List X) → any f (cond b (x ∷ xs) xs) ≡ ((b && f x) || any f xs)
-any_kept f true x xs = refl
-any_kept f false x xs = refl
-
-any_left : {X : Type 0} (f : X → Bool) (b : Bool) (x : X) (xs : List X) → any f (cond b xs (x ∷ xs)) ≡ ((not b && f x) || any f xs)
-any_left f true x xs = refl
-any_left f false x xs = refl
-
-pub at_more : (ns : List ℕ) (v k : ℕ) (xs : List (WrittenAtom WrittenTerm)) → k < length xs →
-    occurs v (at_numbers ns k (logic_atoms (drop k xs))) ≡ ((member k ns && mentions v (query_atom (get_or xs k no_atom))) || occurs v (at_numbers ns (k + 1) (logic_atoms (drop (k + 1) xs))))
-at_more ns v k xs h =
-    at_drop_more (λ l. occurs v (at_numbers ns k (logic_atoms l))) xs k no_atom h
-    ∙ any_kept (mentions v) (member k ns) (query_atom (get_or xs k no_atom)) (at_numbers ns (suc k) (logic_atoms (drop (k + 1) xs)))
-    ∙ ap (λ n. (member k ns && mentions v (query_atom (get_or xs k no_atom))) || occurs v (at_numbers ns n (logic_atoms (drop (k + 1) xs)))) (sym (add-one k))
-
-pub off_more : (ns : List ℕ) (v k : ℕ) (xs : List (WrittenAtom WrittenTerm)) → k < length xs →
-    occurs v (off_numbers ns k (logic_atoms (drop k xs))) ≡ ((not (member k ns) && mentions v (query_atom (get_or xs k no_atom))) || occurs v (off_numbers ns (k + 1) (logic_atoms (drop (k + 1) xs))))
-off_more ns v k xs h =
-    at_drop_more (λ l. occurs v (off_numbers ns k (logic_atoms l))) xs k no_atom h
-    ∙ any_left (mentions v) (member k ns) (query_atom (get_or xs k no_atom)) (off_numbers ns (suc k) (logic_atoms (drop (k + 1) xs)))
-    ∙ ap (λ n. (not (member k ns) && mentions v (query_atom (get_or xs k no_atom))) || occurs v (off_numbers ns n (logic_atoms (drop (k + 1) xs)))) (sym (add-one k))
 
 -- ---------------------------------------------------------------- variables of a copy
 

@@ -1,17 +1,19 @@
 -- A draft with one atom more.
-use Rattle.std.proofs.Common.{◌≡◌, ℕ, ◌-◌, ◌<◌, ◌≤◌, Bool, true, false, ◌&&◌, ◌||◌, eqb, List, [], ◌∷◌, ◌++◌, map, length, take, sym, refl, ap, ◌∙◌, subst, ap₂, ⊎_elim, append-nil, arith}
+use Rattle.std.proofs.Common.{◌≡◌, ℕ, ◌<◌, ◌≤◌, true, false, ◌&&◌, ◌||◌, eqb, List, [], ◌∷◌, ◌++◌, map, length, Some, None, Option, ◌↔◌, sym, refl, ap, ◌∙◌, subst, ap₂, ⊎_elim, append-nil, arith}
 use Rattle.std.proofs.lemmas.List.{map-append, length-map, length-take, length_push}
-use Rattle.std.proofs.lemmas.Bool.{and_from, cond-true, cond-false}
+use Rattle.std.specs.Option.{is_some, IsSome, OnSome}
+use Rattle.std.proofs.lemmas.Bool.{and_from, cond-true, cond-false, cases_lt, false≢true}
 use Rattle.notation.specs.declared.terms.Term.{Term as WrittenTerm}
 use Rattle.notation.specs.declared.terms.Term.TheVariants.{Constant, Variable}
 use Rattle.notation.specs.declared.terms.Atom.{Atom as WrittenAtom}
 use Rattle.notation.specs.Fits.{term_fits, atom_fits}
 use Rattle.notation.specs.Logic.{Term, var, Atom, at, In, here, rename, terms, terms_of, as_term, query_atom}
+use Rattle.queries.proofs.Held.{length-held}
 use Rattle.queries.specs.Checks.{among, same_terms, same_term as written_same_term}
 use Rattle.rewriting.specs.declared.draft.Draft.{Draft}
 use Rattle.rewriting.specs.declared.steps.Owner.{Owner}
 use Rattle.rewriting.specs.Computing.{any, same_list, same_atom, same_term}
-use Rattle.rewriting.specs.Drafts.{draft_atoms, draft_names, entry_of, entries_of, noted_all, shown_all, Drafted}
+use Rattle.rewriting.specs.Drafts.{draft_atoms, draft_names, entry_of, entries_of, noted_all, shown_all, Drafted, Added}
 use Rattle.rewriting.specs.Judging.{numbered, new_query, small}
 use Rattle.rewriting.specs.Steps.{Query, Ref}
 use Rattle.rewriting.specs.Tables.{place, Names, Within, OwnerWithin, AtomsWithin}
@@ -46,27 +48,19 @@ added_has n g =
     (λ t. let r = any_in (same_atom same_term g) n t in subst (λ v. In v n) (sym (atom_eq same_term term_eq term_refl g r.0 r.2)) r.1)
     (λ t. in_right n (here refl))
 
--- what was asked of the first atoms of e is so of d, which has the same
-pub found_in : (b : WrittenAtom WrittenTerm) (d e : Draft) (r : Bool) → draft_atoms e ≡ draft_atoms d → r ≡ among b (take (e.count - 0) e.atoms) → among b (draft_atoms d) ≡ r
-found_in b d e r same is = ap (among b) (sym same ∙ ap (λ n. take n e.atoms) (whole e.count)) ∙ sym is
-  where
-    whole : (n : ℕ) → n ≡ n - 0
-    whole n = omega arith
-
 -- ---------------------------------------------------------------- what drafts have
 
 few_names : (f : Ref → Ref) (ls : List (Atom Ref)) (d : Draft) → Drafted f ls d → length (order_of f ls) ≤ 32
 few_names f ls d has =
     let e = ap length has.names_are ∙ length-map (order_of f ls) place in
-    let l = length-take d.variables d.names in
-    let h = d.numbered in
+    let l = length-take d.variables.count d.variables.entries in
+    let h = d.variables.within in
     omega arith
 
 pub drafted_small : (f : Ref → Ref) (ls : List (Atom Ref)) (d : Draft) → Drafted f ls d → small (new_query f ls) ≡ true
 drafted_small f ls d has =
     let e = ap length (sym has.atoms_are) ∙ length-map (draft_atoms d) query_atom in
-    let l = length-take d.count d.atoms in
-    let h = d.few in
+    let l = length-held d.atoms in
     few_small f ls (few_names f ls d has) (omega arith)
 
 -- ---------------------------------------------------------------- one atom more
@@ -140,8 +134,17 @@ module _ (t : List ℕ) (f : Ref → Ref) (ls : List (Atom Ref)) (d : Draft) (kn
     pub has_it_now : among b (draft_atoms d) ≡ false → draft_atoms e ≡ draft_atoms d ++ b ∷ [] → Drafted f (ls ++ new ∷ []) e
     has_it_now found more = drafted (ap logic_atoms more ∙ map-append query_atom (draft_atoms d) (b ∷ []) ∙ sym (fresh_query found))
 
-    pub too_many_atoms : among b (draft_atoms d) ≡ false → 16 ≤ length (draft_atoms d) → small (new_query f (ls ++ new ∷ [])) ≡ false
+    too_many_atoms : among b (draft_atoms d) ≡ false → 16 ≤ length (draft_atoms d) → small (new_query f (ls ++ new ∷ [])) ≡ false
     too_many_atoms found full =
         let l = ap length (fresh_query found) ∙ length_push (logic_atoms (draft_atoms d)) (query_atom b) in
         let k = length-map (draft_atoms d) query_atom in
         many_large (new_query f (ls ++ new ∷ [])) (omega arith)
+
+  -- b was put after the atoms of e, or they are as many as may be
+  pub pushed : (b : WrittenAtom WrittenTerm) (e g : Draft) → b.predicate ≡ a.predicate → terms_of b.terms ≡ shown_all (draft_names d) (entries_of t o a.terms) →
+      draft_names e ≡ noted_all (draft_names d) (entries_of t o a.terms) → draft_atoms e ≡ draft_atoms d → among b (draft_atoms d) ≡ false → draft_names g ≡ draft_names e →
+      (r : Option (Unit {0})) → IsSome r ↔ (length (draft_atoms e) < 16) → OnSome r (draft_atoms g ≡ draft_atoms e ++ b ∷ []) → Added (is_some r) f (ls ++ new ∷ []) g
+  pushed b e g pred shows noted_e kept fresh same (Some u) room more = has_it_now b g pred shows (same ∙ noted_e) fresh (more ∙ ap (λ v. v ++ b ∷ []) kept)
+  pushed b e g pred shows noted_e kept fresh same None room more =
+      too_many_atoms b e pred shows noted_e fresh
+      (⊎_elim (λ l. absurd (false≢true (room.1 (let k = ap length kept in omega arith)))) (λ l. l) (cases_lt (length (draft_atoms d)) 16))

@@ -1,12 +1,19 @@
 -- A turn of each loop over the parts of a step.
-use Rattle.std.proofs.Common.{◌≡◌, ℕ, zero, suc, ◌+◌, ◌<◌, ◌≤◌, Bool, true, cond, List, [], ◌∷◌, map, length, get_or, drop, sym, refl, ap, ◌∙◌, subst, ap₂, ⊎_elim, add-one, arith}
+use Rattle.std.proofs.Common.{◌≡◌, ℕ, zero, suc, ◌+◌, ◌<◌, ◌≤◌, Bool, true, cond, List, [], ◌∷◌, map, length, get_or, drop, Option, Some, None, sym, refl, ap, ◌∙◌, subst, ap₂, ⊎_elim, add-one, arith}
+use lib.ListN.{length-map}
 use Rattle.std.proofs.lemmas.List.{at_drop_more, at_drop_all, get_or-map}
+use Rattle.queries.specs.Rules.{heads_of}
 use Rattle.notation.specs.declared.terms.Term.{Term as WrittenTerm}
 use Rattle.notation.specs.declared.terms.Atom.{Atom as WrittenAtom}
 use Rattle.notation.specs.Logic.{Term, Atom, query_atom}
-use Rattle.rewriting.specs.declared.rows.Row.{Row}
+use Rattle.queries.specs.declared.row.Row.{Row}
+use Rattle.rewriting.specs.declared.pieces.Piece.{Piece as WrittenPiece}
+use Rattle.rewriting.specs.declared.piecewise.Pieces.{Pieces}
+use Rattle.rewriting.specs.declared.proposals.Proposal.{Proposal}
 use Rattle.rewriting.specs.declared.steps.Part.{Part as WrittenPart}
 use Rattle.rewriting.specs.Judging.{failing, Ledger, Read, read, refused, part_read, part_tested, pieces, standing}
+use Rattle.rewriting.specs.Pieces.{piece_of}
+use Rattle.rewriting.specs.Proposals.{rule_of, parts_of, PieceAt, GivesPiece}
 use Rattle.rewriting.specs.Steps.{Query, Part, Piece, piece, nth}
 use Rattle.rewriting.specs.Tables.{TiesWithin, part_ties, ties_from}
 use Rattle.rewriting.specs.Written.{logic_atoms, part_of, row_at, row_standing, pieces_from}
@@ -21,6 +28,11 @@ head_is (d ∷ hs) (suc i) = head_is hs i
 -- a part at a place
 pub part_is : (ws : List WrittenPart) (i : ℕ) (w : WrittenPart) → i < length ws → w ≡ get_or ws i w → part_of w ≡ get_or (map part_of ws) i (part_of w)
 part_is ws i w l is = ap part_of is ∙ sym (get_or-map part_of ws i w (part_of w) l)
+
+-- a piece at its place
+pub piece_is : (q : WrittenPiece) (rows : List Row) (i : ℕ) (b : List (Atom Term)) → q.number ≡ i → q.query.now ≡ row_at rows q.part.now.query →
+    piece_of b q ≡ piece i b (logic_atoms q.head.now) (logic_atoms (row_at rows q.part.now.query)) (part_of q.part.now)
+piece_is q rows i b number query = ap₂ (λ (k : ℕ) (qu : List (WrittenAtom WrittenTerm)). piece k b (logic_atoms q.head.now) (logic_atoms qu) (part_of q.part.now)) number query
 
 -- a list from a place on, the element there first
 drop_first : {X : Type 0} (xs : List X) (i : ℕ) (d : X) → i < length xs → drop i xs ≡ get_or xs i d ∷ drop (i + 1) xs
@@ -41,6 +53,27 @@ fail_more g b rows ds ps i d p r hd hp ed ep is =
     ap₂ (λ (k : ℕ) (c : Bool). cond c (failing g k (pieces_from b rows (i + 1) (drop (i + 1) ds) (drop (i + 1) ps))) (i ∷ [])) (add-one i) is
     ∙ sym (ap (failing g i) (pieces_more b rows ds ps i d p hd hp ed ep))
 
+-- what was answered for the pieces from i on
+abbrev pub Rest : (Piece → Bool) → List (Atom Term) → Proposal → ℕ → List ℕ
+Rest g b s i = failing g i (pieces_from b s.rows.now i (drop i (rule_of s).heads) (drop i (parts_of s)))
+
+-- r is what was answered for the proposal's piece i
+pub fail_piece : (g : Piece → Bool) (b : List (Atom Term)) (s : Proposal) (i : ℕ) (q : WrittenPiece) (r : Bool) → PieceAt s i q → r ≡ g (piece_of b q) → cond r (Rest g b s (i + 1)) (i ∷ []) ≡ Rest g b s i
+fail_piece g b s i q r at is =
+    let n = length-map s.parts.now part_of in
+    let pairs = s.paired in
+    let lt = at.below in
+    fail_more g b s.rows.now (rule_of s).heads (parts_of s) i (logic_atoms q.head.now) (part_of q.part.now) r (omega arith) (omega arith)
+    (ap logic_atoms at.head ∙ head_is (heads_of s.rule.now) i) (part_is s.parts.now i q.part.now lt at.part) (is ∙ ap g (piece_is q s.rows.now i b at.number at.query))
+
+-- the piece that came is the proposal's next one
+pub came : (s : Proposal) (a e : Pieces) (r : Option WrittenPiece) (q : WrittenPiece) → a.proposal ≡ s → r ≡ Some q → GivesPiece a r e → PieceAt s a.next q × (e.next ≡ a.next + 1) × (e.proposal ≡ s)
+came s a e r q of is gives = let m = gives.more q is in (subst (λ p. PieceAt p a.next q) of m.0, m.1, gives.same ∙ of)
+
+-- and none came after its last
+pub ended : (s : Proposal) (a e : Pieces) (r : Option WrittenPiece) → a.proposal ≡ s → r ≡ None → GivesPiece a r e → length s.parts.now ≤ a.next
+ended s a e r of is gives = subst (λ (p : Proposal). length p.parts.now ≤ a.next) of (gives.end is)
+
 -- after the last part
 pub pieces_all : (b : List (Atom Term)) (rows : List Row) (ds : List (List (Atom Term))) (ps : List Part) (i : ℕ) → length ds ≤ i → pieces_from b rows i (drop i ds) (drop i ps) ≡ []
 pieces_all b rows ds ps i h = at_drop_all (λ v. pieces_from b rows i v (drop i ps)) ds i h
@@ -52,9 +85,6 @@ abbrev pub Leads : Ledger → List (Atom Term) → List Row → List (List (Atom
 Leads s b rows ds ps i =
     ((k j : ℕ) → pieces s b i (drop i ds) (drop i ps) ≡ refused k j → pieces s b 0 ds ps ≡ refused k j)
     × (pieces s b i (drop i ds) (drop i ps) ≡ read (pieces_from b rows i (drop i ds) (drop i ps)) → pieces s b 0 ds ps ≡ read (pieces_from b rows 0 ds ps))
-
-pub leads_none : (s : Ledger) (b : List (Atom Term)) (rows : List Row) (ds : List (List (Atom Term))) (ps : List Part) → Leads s b rows ds ps 0
-leads_none s b rows ds ps = (λ k j e. e, λ e. e)
 
 abbrev Standing : Ledger → List Row → Type 0
 Standing s rows = (k : ℕ) → standing s k ≡ row_standing (nth k rows)

@@ -1,8 +1,8 @@
 -- Each term that has a place has its own.
-use Rattle.std.proofs.Common.{◌≡◌, ℕ, zero, suc, ◌+◌, ◌-◌, ◌<◌, ◌≤◌, cond, T, eqb, ltb, ◌⊎◌, List, [], ◌∷◌, ◌++◌, map, length, get_or, drop, vec_items, sym, refl, ap, ◌∙◌, subst, ap₂, inl, inr, ⊎_elim, add-zero, zero-add, arith}
+use Rattle.std.proofs.Common.{◌≡◌, ℕ, suc, ◌+◌, ◌-◌, ◌<◌, ◌≤◌, cond, T, eqb, ltb, ◌⊎◌, List, [], ◌∷◌, ◌++◌, map, length, get_or, vec_items, sym, refl, ap, ◌∙◌, subst, ap₂, inl, inr, ⊎_elim, add-zero, zero-add, append_assoc, arith}
 use Rattle.std.specs.List.{range_with_len}
 use Rattle.std.proofs.lemmas.List.FromFn.{length-range_with_len, get_or-range_with_len}
-use Rattle.std.proofs.lemmas.List.{get_or-map, length-map, drop-map, drop_more}
+use Rattle.std.proofs.lemmas.List.{get_or-map, length-map, map-append}
 use Rattle.std.proofs.lemmas.Bool.{eq-eqb, ne_eqb, lt-ltb, le-ltb, cond-true, cond-false, cases_Bool, cases_lt}
 use Rattle.notation.specs.Logic.{In, here, there}
 use Rattle.rewriting.specs.Classes.{same_ref, name_in, joined, classes}
@@ -16,7 +16,6 @@ use Rattle.rewriting.proofs.Classing.{names_are_classes}
 use Rattle.rewriting.specs.Written.{end_of, tie_of, part_of}
 use Rattle.rewriting.proofs.Judged.{off_ends}
 use Rattle.rewriting.proofs.Lists.{by_test, none_in, in_cases, in_left, in_right, in_map, ref_eq, ref_refl}
-use Rattle.rewriting.proofs.Nth.{nth_in, nth_at}
 use Rattle.rewriting.proofs.Search.{T_true}
 
 pub place_below : (x : Ref) → Within x → place x < 1160
@@ -132,32 +131,31 @@ names_group t ts n x y hx hy =
       λ l. n.entry x hx ∙ ap place (same.1 l) ∙ sym (n.entry y hy),
     )
 
+-- those before x, and then it and the last ones
+pub split_at : {X : Type 0} (xs rest before : List X) (x : X) (last : List X) → xs ≡ rest ++ last → rest ≡ before ++ x ∷ [] → xs ≡ before ++ x ∷ last
+split_at xs rest before x last e p = e ∙ ap (λ v. v ++ last) p ∙ append_assoc before (x ∷ []) last
+
+-- with none before them the last ones are all
+pub none_before : {X : Type 0} (xs rest last : List X) → xs ≡ rest ++ last → length rest ≡ 0 → last ≡ xs
+none_before xs [] last e l = sym e
+none_before xs (x ∷ rest) last e l = absurd (omega arith)
+
 -- the ties of later parts are ties of the step
-later_ties : (i j : ℕ) (ps : List Part) (t : Ref × Ref) → In t (ties_from (i + j) (drop j ps)) → In t (ties_from i ps)
-later_ties i zero ps t m = subst (λ k. In t (ties_from k ps)) (add-zero i) m
-later_ties i (suc j) [] t m = m
-later_ties i (suc j) (p ∷ ps) t m = in_right _ (later_ties (suc i) j ps t (subst (λ k. In t (ties_from k (drop j ps))) (omega arith) m))
+later_ties : (k : ℕ) (before : List WrittenPart) (ps : List Part) (t : Ref × Ref) → In t (ties_from (k + length before) ps) → In t (ties_from k (map part_of before ++ ps))
+later_ties k [] ps t m = subst (λ n. In t (ties_from n ps)) (add-zero k) m
+later_ties k (p ∷ before) ps t m = in_right _ (later_ties (suc k) before ps t (subst (λ n. In t (ties_from n ps)) (omega arith) m))
 
--- the ties from part j on: its own and the later ones
-pub ties_at : (parts : List WrittenPart) (j n : ℕ) (d : WrittenPart) → n ≡ suc j → j < length parts →
-    ties_from j (map part_of (drop j parts)) ≡ written_ties j (vec_items (get_or parts j d).ties) ++ ties_from n (map part_of (drop n parts))
-ties_at parts j n d e h =
-    let here : Ties = written_ties j (vec_items (get_or parts j d).ties) in
-    let next : j + 1 ≡ n = omega arith in
-    ap (λ l. ties_from j (map part_of l)) (drop_more parts j d h)
-    ∙ ap (λ k. here ++ ties_from (suc j) (map part_of (drop k parts))) next
-    ∙ ap (λ k. here ++ ties_from k (map part_of (drop n parts))) (sym e)
+pub ties_of_part : (parts before : List WrittenPart) (p : WrittenPart) (last : List WrittenPart) (i : ℕ) → i ≡ length before → parts ≡ before ++ p ∷ last →
+    TiesWithin (ties_from 0 (map part_of parts)) → TiesWithin (written_ties i (vec_items p.ties))
+ties_of_part parts before p last i number e w t m =
+    let n : i ≡ 0 + length before = omega arith in
+    w t
+    (subst (λ v. In t (ties_from 0 v)) (sym (ap (map part_of) e ∙ map-append part_of before (p ∷ last)))
+    (later_ties 0 before (part_of p ∷ map part_of last) t (in_left _ (subst (λ k. In t (written_ties k (vec_items p.ties))) n m))))
 
-pub ties_of_part : (parts : List WrittenPart) (j : ℕ) (d : WrittenPart) → j < length parts → TiesWithin (ties_from 0 (map part_of parts)) → TiesWithin (written_ties j (vec_items (get_or parts j d).ties))
-ties_of_part parts j d h w t m =
-    w t (later_ties 0 j (map part_of parts) t
-    (subst (λ k. In t (ties_from k (drop j (map part_of parts)))) (sym (zero-add j))
-    (subst (λ l. In t (ties_from j l)) (sym (drop-map part_of j parts))
-    (subst (λ l. In t l) (sym (ties_at parts j (suc j) d refl h)) (in_left _ m)))))
-
--- both ends of tie j have a place
-pub tie_within : (i j : ℕ) (ties : List Tie) (d : Tie) → TiesWithin (written_ties i ties) → j < length ties →
-    Within (end i (end_of (get_or ties j d).left)) × Within (end i (end_of (get_or ties j d).right))
-tie_within i j ties d w h =
-    w (end i (end_of (get_or ties j d).left), end i (end_of (get_or ties j d).right))
-    (in_map (λ (t : End × End). (end i t.0, end i t.1)) (in_map tie_of (nth_in j ties (nth_at j ties d h))))
+-- both ends of a tie have a place
+pub tie_within : (i : ℕ) (ties before : List Tie) (t : Tie) (last : List Tie) → TiesWithin (written_ties i ties) → ties ≡ before ++ t ∷ last →
+    Within (end i (end_of t.left)) × Within (end i (end_of t.right))
+tie_within i ties before t last w e =
+    w (end i (end_of t.left), end i (end_of t.right))
+    (in_map (λ (u : End × End). (end i u.0, end i u.1)) (in_map tie_of (subst (In t) (sym e) (in_right before (here refl)))))

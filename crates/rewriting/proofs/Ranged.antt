@@ -7,17 +7,18 @@ use Rattle.notation.specs.declared.terms.Terms.{Terms}
 use Rattle.notation.specs.declared.terms.Terms.TheVariants.{One, Two, Three, Four}
 use Rattle.notation.specs.declared.terms.Atom.{Atom as WrittenAtom}
 use Rattle.notation.specs.Fits.{term_fits, terms_fit, atom_fits}
-use Rattle.notation.specs.Logic.{Term, Atom, In, here, there, rename, terms, terms_of, as_term}
+use Rattle.notation.specs.Logic.{Term, Atom, In, rename, terms, terms_of, as_term}
 use Rattle.queries.specs.Checks.{atoms_all_fit, all_terms, fine, distinct, numbered, valid}
 use Rattle.queries.specs.RuleChecks.{heads_fine}
 use Rattle.rewriting.specs.declared.steps.Owner.{Owner}
 use Rattle.rewriting.specs.declared.steps.Owner.TheVariants as owner
-use Rattle.rewriting.specs.declared.rows.Row.{Row}
+use Rattle.queries.specs.declared.row.Row.{Row}
+use Rattle.queries.specs.Rows.{row_atoms}
 use Rattle.rewriting.specs.Computing.{all}
 use Rattle.rewriting.specs.Judging.{has_ref, tie_fits, ties_fit}
 use Rattle.rewriting.specs.Steps.{Ref, Part, Piece, piece, at_numbers}
 use Rattle.rewriting.specs.Tables.{Within, OwnerWithin, AtomsWithin, TiesWithin, part_ties}
-use Rattle.rewriting.specs.Written.{ref_of, logic_atoms, side, row_atoms, row_at, all_valid}
+use Rattle.rewriting.specs.Written.{ref_of, logic_atoms, side, row_at, all_valid}
 use Rattle.rewriting.proofs.Lists.{none_in, in_cases, in_either, in_map, of_map, at_in, all_at, both_in, or_in, occurs_in}
 use Rattle.rewriting.proofs.Apart.{occurs_at}
 use Rattle.rewriting.proofs.Judged.{has_in}
@@ -71,10 +72,6 @@ atoms_within o (a ∷ as') h w x m =
     subst Within (sym (u.2 ∙ ap (ref_of o) v.2)) (term_within o v.0 (terms_fitting a.terms (atom_terms_fit a p.0) v.0 v.1) w))
     (λ n. atoms_within o as' p.1 w x n)
     (in_either (map (ref_of o) (map as_term (terms_of a.terms))) m)
-
--- the last of four
-pub fourth_fits : (ts : Terms WrittenTerm) (a b d e : WrittenTerm) → ts ≡ Four a b d e → terms_fit term_fits ts ≡ true → term_fits e ≡ true
-fourth_fits ts a b d e is h = terms_fitting (Four a b d e) (subst (λ v. terms_fit term_fits v ≡ true) is h) e (there (there (there (here refl))))
 
 -- the atom at a place
 pub fits_at : (as' : List (WrittenAtom WrittenTerm)) (j : ℕ) (d : WrittenAtom WrittenTerm) → atoms_all_fit as' ≡ true → j < length as' → atom_fits term_fits (get_or as' j d) ≡ true

@@ -12,7 +12,7 @@ use Rattle.notation.specs.Logic.{Term, con, var, Atom, at, In, here, there, rena
 use Rattle.queries.specs.Checks.{all_terms, allowed, numbered as numbers, among, distinct, atoms_all_fit, fine, valid}
 use Rattle.search.specs.Keeping.{Occurs}
 use Rattle.rewriting.specs.declared.draft.Draft.{Draft}
-use Rattle.rewriting.specs.declared.rows.Row.{Row}
+use Rattle.queries.specs.declared.row.Row.{Row}
 use Rattle.rewriting.specs.declared.steps.Owner.{Owner}
 use Rattle.rewriting.specs.declared.steps.Owner.TheVariants as owner
 use Rattle.rewriting.specs.Classes.{name_in, classes}

@@ -6,9 +6,6 @@ use Rattle.rewriting.specs.Unifiers.{part_terms, Joined, within, itself, back, v
 use Rattle.rewriting.proofs.Lists.{in_left, in_right, occurs_in}
 use Rattle.rewriting.proofs.Named.{become_of, of_become}
 
-fixed_num : {k m : ℕ} → fixed k ≡ fixed m → k ≡ m
-fixed_num {k} {m} e = cc
-
 pub joined_names : {us : List Unified} (f : Ref → Ref) {x y : Ref} → Joined us (λ i. f) x y → f x ≡ f y
 joined_names f (within p m i j e) = e
 joined_names f itself = refl

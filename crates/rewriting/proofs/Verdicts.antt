@@ -1,12 +1,14 @@
 -- What a step whose parts were read comes to.
-use Rattle.std.proofs.Common.{◌≡◌, ℕ, suc, ◌<◌, ◌≤◌, Bool, true, false, cond, eqb, ltb, List, [], ◌∷◌, ◌++◌, map, length, get_or, sym, refl, ap, ◌∙◌, ap₂, arith}
+use Rattle.std.proofs.Common.{◌≡◌, ℕ, suc, ◌<◌, ◌≤◌, Bool, true, false, cond, eqb, ltb, List, [], ◌∷◌, ◌++◌, map, length, get_or, take, sym, refl, ap, ◌∙◌, ap₂, arith}
 use lib.ListN.{length-map}
 use Rattle.std.proofs.lemmas.Bool.{lt-ltb, le-ltb, eq-eqb, ne_eqb}
 use Rattle.std.proofs.lemmas.List.{get_or-map}
-use Rattle.notation.specs.Logic.{Term, Atom, rename}
+use Rattle.notation.specs.Logic.{Term, Atom, rename, query_atom}
+use Rattle.queries.specs.Heads.{head_atoms}
+use Rattle.queries.specs.Rules.{heads_of}
 use Rattle.queries.specs.declared.rule.Rule.{Rule as WrittenRule}
 use Rattle.search.specs.Keeping.{Rule}
-use Rattle.rewriting.specs.declared.rows.Row.{Row}
+use Rattle.queries.specs.declared.row.Row.{Row}
 use Rattle.rewriting.specs.Classes.{name_in, classes}
 use Rattle.rewriting.specs.Computing.{all, each}
 use Rattle.rewriting.specs.Judging.{Ledger, refuses, enters, ends, constant_alone, failing, sets_meet, unnamed_right, new_query, small, limits, fitting, verdict, tested, Read, pieces, judge, judge_rule, judge_read}
@@ -14,6 +16,10 @@ use Rattle.rewriting.specs.Steps.{Query, Ref, Part, Step, nth, Ties, bare, all_t
 use Rattle.rewriting.specs.Tables.{ties_from, part_ties}
 use Rattle.rewriting.specs.Written.{logic_atoms, row_at, pieces_from, untaken_from, left_of, rule_meant, Shows}
 use Rattle.rewriting.proofs.Nth.{nth_at, nth_past}
+
+-- as many heads as the rule says
+pub heads_count : (u : WrittenRule) → length (rule_meant u).heads ≡ length (take u.count u.heads)
+heads_count u = length-map (heads_of u) (map query_atom) ∙ length-map (take u.count u.heads) head_atoms
 
 pub ties_are : (b : List (Atom Term)) (rows : List Row) (i : ℕ) (ds : List (List (Atom Term))) (ps : List Part) → length ds ≡ length ps → all_ties (pieces_from b rows i ds ps) ≡ ties_from i ps
 ties_are b rows i [] [] e = refl

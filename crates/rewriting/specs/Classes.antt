@@ -1,5 +1,5 @@
 -- The classes by computing: each term's class has a name.
-use Rattle.std.specs.Prelude.{◌≡◌, ℕ, Bool, false, cond, ◌&&◌, ◌↔◌, List, [], ◌∷◌, ◌==◌}
+use Rattle.std.specs.Prelude.{◌≡◌, ℕ, Bool, false, if◌then◌else◌, ◌&&◌, ◌↔◌, List, [], ◌∷◌, ◌==◌}
 use Rattle.rewriting.specs.Steps.{Ref, fixed, own, copy, Ties, Linked, Together}
 
 abbrev pub same_ref : Ref → Ref → Bool
@@ -16,7 +16,7 @@ same_ref (copy i k) (copy j m) = i == j && k == m
 -- the name of a term's class, by a list of renamings of which the first is the newest
 abbrev pub name_in : List (Ref × Ref) → Ref → Ref
 name_in [] x = x
-name_in (e ∷ tb) x = let y = name_in tb x in cond (same_ref y e.0) e.1 y
+name_in (e ∷ tb) x = let y = name_in tb x in if same_ref y e.0 then e.1 else y
 
 -- which of two names gives way, and to which: a constant stays
 abbrev pub joined : Ref → Ref → Ref × Ref
@@ -28,6 +28,10 @@ joined (copy i k) y = (copy i k, y)
 abbrev pub classes : Ties → List (Ref × Ref)
 classes [] = []
 classes (t ∷ ts) = let tb = classes ts in joined (name_in tb t.0) (name_in tb t.1) ∷ tb
+
+-- the name of a term's class, by the ties
+abbrev pub class_name : Ties → Ref → Ref
+class_name ts = name_in (classes ts)
 
 -- two terms have one name exactly when they are in one class, which is the finest grouping
 abbrev pub NamesAreClasses : Type 0

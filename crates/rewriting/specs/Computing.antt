@@ -1,5 +1,5 @@
 -- Equality tests, and holding and keeping by computing.
-use Rattle.std.specs.Prelude.{◌≡◌, ℕ, Bool, true, false, cond, ◌&&◌, ◌||◌, ◌↔◌, List, [], ◌∷◌, ◌++◌, ◌==◌}
+use Rattle.std.specs.Prelude.{◌≡◌, ℕ, Bool, true, false, if◌then◌else◌, ◌&&◌, ◌||◌, ◌↔◌, List, [], ◌∷◌, ◌++◌, ◌==◌}
 use Rattle.notation.specs.Logic.{Term, con, var, Atom, at, Facts}
 use Rattle.search.specs.Holding.{Holds}
 use Rattle.search.specs.Keeping.{Rule, Keeps}
@@ -42,7 +42,7 @@ Given = List (ℕ × Term)
 -- the term given to n, or none
 abbrev pub given : ℕ → Given → List Term
 given n [] = []
-given n (e ∷ s) = cond (n == e.0) (e.1 ∷ []) (given n s)
+given n (e ∷ s) = if n == e.0 then e.1 ∷ [] else given n s
 
 abbrev pub only : {X : Type 0} → Bool → X → List X
 only true x = x ∷ []

@@ -1,11 +1,13 @@
 -- Drafts: what stands for each entry of a table of classes, and what a draft of a new query has.
-use Rattle.std.specs.Prelude.{◌≡◌, ℕ, suc, ◌<◌, Bool, true, false, cond, List, [], ◌∷◌, ◌++◌, map, length, take, Some, None, Option, ◌==◌, nat_lt, slice_index}
+use Rattle.std.specs.Prelude.{◌≡◌, ℕ, suc, ◌<◌, Bool, true, false, if◌then◌else◌, List, [], ◌∷◌, ◌++◌, map, length, take, Some, None, Option, ◌==◌, nat_lt, slice_index}
 use Rattle.notation.specs.declared.terms.Term.{Term as WrittenTerm}
 use Rattle.notation.specs.declared.terms.Term.TheVariants.{Constant, Variable}
 use Rattle.notation.specs.declared.terms.Terms.{Terms}
 use Rattle.notation.specs.declared.terms.Atom.{Atom as WrittenAtom}
 use Rattle.notation.specs.Logic.{Atom, rename, terms, terms_of, as_term}
+use Rattle.queries.specs.Atoms.{held}
 use Rattle.rewriting.specs.declared.draft.Draft.{Draft}
+use Rattle.rewriting.specs.declared.draft.Variables.{Variables}
 use Rattle.rewriting.specs.declared.steps.Owner.{Owner}
 use Rattle.rewriting.specs.Judging.{order_from, new_query, small}
 use Rattle.rewriting.specs.Steps.{Query, Ref}
@@ -14,11 +16,14 @@ use Rattle.rewriting.specs.Written.{ref_of, logic_atoms}
 
 -- the atoms of a draft
 abbrev pub draft_atoms : Draft → List (WrittenAtom WrittenTerm)
-draft_atoms d = take d.count d.atoms
+draft_atoms d = held d.atoms
 
--- the entries that its variables stand for
+-- the entries that variables stand for
+abbrev pub entries : Variables → List ℕ
+entries v = take v.count v.entries
+
 abbrev pub draft_names : Draft → List ℕ
-draft_names d = take d.variables d.names
+draft_names d = entries d.variables
 
 -- ---------------------------------------------------------------- entries
 
@@ -32,11 +37,11 @@ entries_of t o us = map (entry_of t o) (terms_of us)
 -- where e stands first; the list's length where it does not
 abbrev pub first_place : ℕ → List ℕ → ℕ
 first_place e [] = 0
-first_place e (n ∷ ns) = cond (n == e) 0 (suc (first_place e ns))
+first_place e (n ∷ ns) = if n == e then 0 else suc (first_place e ns)
 
 -- the entries that have variables, after e: those before, and e if it is new and no constant
 abbrev pub noted : List ℕ → ℕ → List ℕ
-noted ns e = cond (nat_lt e 1000) ns (cond (nat_lt (first_place e ns) (length ns)) ns (ns ++ e ∷ []))
+noted ns e = if nat_lt e 1000 then ns else if nat_lt (first_place e ns) (length ns) then ns else ns ++ e ∷ []
 
 abbrev pub noted_all : List ℕ → List ℕ → List ℕ
 noted_all ns [] = ns
@@ -44,7 +49,7 @@ noted_all ns (e ∷ es) = noted_all (noted ns e) es
 
 -- the term that stands for e, where ns have variables
 abbrev pub shown : List ℕ → ℕ → WrittenTerm
-shown ns e = cond (nat_lt e 1000) (Constant e) (Variable (first_place e ns))
+shown ns e = if nat_lt e 1000 then Constant e else Variable (first_place e ns)
 
 abbrev pub shown_all : List ℕ → List ℕ → List WrittenTerm
 shown_all ns [] = []

@@ -1,19 +1,19 @@
 -- A table of classes through one tie more.
-use Rattle.std.specs.Prelude.{ℕ, cond, List, map, ◌==◌, nat_lt, slice_index_or}
+use Rattle.std.specs.Prelude.{ℕ, if◌then◌else◌, List, map, ◌==◌, nat_lt, slice_index_or}
 use Rattle.notation.specs.declared.terms.Tie.{Tie}
 use Rattle.rewriting.specs.Steps.{end, Ties}
 use Rattle.rewriting.specs.Written.{tie_of}
 
 -- the entry x, where `from` has become `to`
 abbrev pub relabelled : ℕ → ℕ → ℕ → ℕ
-relabelled from to x = cond (x == from) to x
+relabelled from to x = if x == from then to else x
 
 -- the classes of the places a and b made one: a name that is a constant stays
 abbrev pub joined_table : List ℕ → ℕ → ℕ → List ℕ
 joined_table t a b =
     let u = slice_index_or t a 0 in
     let v = slice_index_or t b 0 in
-    cond (nat_lt u 1000) (map (relabelled v u) t) (map (relabelled u v) t)
+    if nat_lt u 1000 then map (relabelled v u) t else map (relabelled u v) t
 
 -- the ties that part i writes
 abbrev pub written_ties : ℕ → List Tie → Ties

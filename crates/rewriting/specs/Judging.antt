@@ -1,5 +1,5 @@
 -- The outcome of each call, by computing.
-use Rattle.std.specs.Prelude.{ℕ, suc, Bool, true, false, cond, not, ◌&&◌, ◌||◌, ltb, List, [], ◌∷◌, ◌++◌, map, length, ◌==◌, nat_le, nat_lt}
+use Rattle.std.specs.Prelude.{ℕ, suc, Bool, true, false, if◌then◌else◌, not, ◌&&◌, ◌||◌, List, [], ◌∷◌, ◌++◌, map, length, ◌==◌, nat_le, nat_lt}
 use Rattle.notation.specs.Logic.{Term, con, var, Atom, Facts, rename, terms}
 use Rattle.search.specs.Keeping.{Rule}
 use Rattle.rewriting.specs.Computing.{same_term, same_atom, any, all, holds, keeps}
@@ -56,7 +56,7 @@ order_from seen (copy i k ∷ xs) = elim (any (same_ref (copy i k)) seen) [ true
 
 abbrev pub place_of : Ref → List Ref → ℕ
 place_of x [] = 0
-place_of x (y ∷ ys) = cond (same_ref x y) 0 (suc (place_of x ys))
+place_of x (y ∷ ys) = if same_ref x y then 0 else suc (place_of x ys)
 
 abbrev pub numbered : List Ref → Ref → Term
 numbered os (fixed k) = con k
@@ -98,7 +98,7 @@ pub data Read : Type 0 where
   refused : ℕ → ℕ → Read
 
 abbrev pub standing : Ledger → ℕ → List Query
-standing s n = cond (member n s.struck) [] (nth n s.entered)
+standing s n = if member n s.struck then [] else nth n s.entered
 
 abbrev pub tie_fits : Piece → Ref × Ref → Bool
 tie_fits p t = let ok : Ref → Bool = λ x. has_ref x p.taken || has_ref x p.named in ok t.0 && ok t.1
@@ -128,7 +128,7 @@ pieces s b i (d ∷ ds) (p ∷ ps) = part_read i b d p (standing s p.query) (pie
 -- the first piece that fails, counted from i
 abbrev pub failing : (Piece → Bool) → ℕ → List Piece → List ℕ
 failing f i [] = []
-failing f i (p ∷ ps) = cond (f p) (failing f (suc i) ps) (i ∷ [])
+failing f i (p ∷ ps) = if f p then failing f (suc i) ps else i ∷ []
 
 abbrev pub limits : Bool → Bool → Query → Outcome
 limits false room n = refuses 18 0
@@ -137,7 +137,7 @@ limits true true n = enters n
 
 -- at most 16 atoms and 32 variables
 abbrev pub small : Query → Bool
-small n = nat_le (length n) 16 && all (λ k. ltb k 32) (vars (terms n))
+small n = nat_le (length n) 16 && all (λ k. nat_lt k 32) (vars (terms n))
 
 abbrev pub fitting : Ledger → Query → Outcome
 fitting s n = limits (small n) (nat_lt (length s.entered) 64) n
@@ -175,7 +175,7 @@ abbrev pub strike_tested : List Query → List Query → Bool → Outcome
 strike_tested [] ys same = refuses 12 0
 strike_tested (x ∷ xs) [] same = refuses 12 0
 strike_tested (x ∷ xs) (y ∷ ys) true = refuses 20 0
-strike_tested (x ∷ xs) (y ∷ ys) false = cond (holds y x) strikes (refuses 21 0)
+strike_tested (x ∷ xs) (y ∷ ys) false = if holds y x then strikes else refuses 21 0
 
 abbrev pub judge_strike : Ledger → ℕ → ℕ → Outcome
 judge_strike s a b = strike_tested (standing s a) (standing s b) (a == b)

@@ -2,6 +2,8 @@ pub mod Computing
 pub mod Steps
 pub mod Classes
 pub mod Judging
+pub mod Pieces
+pub mod Proposals
 pub mod Rightness
 pub mod Unifiers
 pub mod Examples

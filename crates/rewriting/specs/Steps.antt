@@ -1,5 +1,5 @@
 -- Steps: what a part says, which terms are in one class, when a step is right, and its new query.
-use Rattle.std.specs.Prelude.{◌≡◌, ℕ, zero, suc, ◌<◌, Bool, true, false, cond, ◌⊎◌, ◌↔◌, List, [], ◌∷◌, ◌++◌, map, nat_eq}
+use Rattle.std.specs.Prelude.{◌≡◌, ℕ, zero, suc, ◌<◌, Bool, true, false, if◌then◌else◌, ◌⊎◌, ◌↔◌, List, [], ◌∷◌, ◌++◌, map, nat_eq}
 use Rattle.notation.specs.Logic.{Term, con, var, Atom, at, In, rename, terms}
 use Rattle.search.specs.Keeping.{Occurs}
 use Rattle.rewriting.specs.Computing.{same_term, same_atom, any, each}
@@ -106,11 +106,11 @@ member n ns = any (nat_eq n) ns
 -- the atoms at the numbers, counted from i, and the others
 abbrev pub at_numbers : {X : Type 0} → List ℕ → ℕ → List X → List X
 at_numbers ns i [] = []
-at_numbers ns i (x ∷ xs) = let more = at_numbers ns (suc i) xs in cond (member i ns) (x ∷ more) more
+at_numbers ns i (x ∷ xs) = let more = at_numbers ns (suc i) xs in if member i ns then x ∷ more else more
 
 abbrev pub off_numbers : {X : Type 0} → List ℕ → ℕ → List X → List X
 off_numbers ns i [] = []
-off_numbers ns i (x ∷ xs) = let more = off_numbers ns (suc i) xs in cond (member i ns) more (x ∷ more)
+off_numbers ns i (x ∷ xs) = let more = off_numbers ns (suc i) xs in if member i ns then more else x ∷ more
 
 abbrev pub vars : List Term → List ℕ
 vars [] = []
@@ -119,7 +119,7 @@ vars (var n ∷ ts) = n ∷ vars ts
 
 abbrev pub drop_all : List ℕ → List ℕ → List ℕ
 drop_all ns [] = []
-drop_all ns (m ∷ ms) = let more = drop_all ns ms in cond (member m ns) more (m ∷ more)
+drop_all ns (m ∷ ms) = let more = drop_all ns ms in if member m ns then more else m ∷ more
 
 -- the head's variables that are not in the body
 abbrev pub unnamed_of : List (Atom Term) → List (Atom Term) → List ℕ

@@ -1,5 +1,6 @@
 -- A table of classes: at the place of each term of a step, the place of its class's name.
 use Rattle.std.specs.Prelude.{◌≡◌, ℕ, suc, ◌+◌, ◌*◌, ◌<◌, ◌↔◌, List, [], ◌∷◌, ◌++◌, map, length, slice_index}
+use Rattle.std.specs.Coded.{×_prop, Unit-prop, le_prop}
 use Rattle.notation.specs.Logic.{Atom, In}
 use Rattle.search.specs.Keeping.{Occurs}
 use Rattle.rewriting.specs.declared.steps.Owner.{Owner}
@@ -18,10 +19,21 @@ Within (fixed k) = k < 1000
 Within (own k) = k < 32
 Within (copy i k) = (i < 4) × (k < 32)
 
+-- in one way only
+pub Within-prop : (x : Ref) → IsProp (Within x)
+Within-prop (fixed k) = le_prop
+Within-prop (own k) = le_prop
+Within-prop (copy i k) = ×_prop le_prop le_prop
+
 -- there is such an owner: a step has at most four parts
 abbrev pub OwnerWithin : Owner → Type 0
 OwnerWithin owner.Rule = Unit {0}
 OwnerWithin (owner.Part i) = i < 4
+
+-- in one way only
+pub OwnerWithin-prop : (o : Owner) → IsProp (OwnerWithin o)
+OwnerWithin-prop owner.Rule = Unit-prop
+OwnerWithin-prop (owner.Part i) = le_prop
 
 -- f names the classes that the table has
 pub record Names (t : List ℕ) (f : Ref → Ref) : Type 0 where

@@ -1,5 +1,5 @@
 -- Steps, rows and answers of the code, as the definitions have them.
-use Rattle.std.specs.Prelude.{◌≡◌, ℕ, suc, Bool, true, false, cond, ◌&&◌, List, [], ◌∷◌, ◌++◌, map, length, take, Some, None, Ok, Err, vec_items, Option, Result}
+use Rattle.std.specs.Prelude.{◌≡◌, ℕ, suc, Bool, true, false, if◌then◌else◌, ◌&&◌, List, [], ◌∷◌, ◌++◌, map, length, Some, None, Ok, Err, vec_items, Option, Result}
 use Rattle.notation.specs.declared.terms.Term.{Term as WrittenTerm}
 use Rattle.notation.specs.declared.terms.Atom.{Atom as WrittenAtom}
 use Rattle.notation.specs.Logic.{Term, Atom, rename, query_atom}
@@ -12,7 +12,8 @@ use Rattle.search.specs.Keeping.{Rule}
 use Rattle.search.specs.Rules.{meant}
 use Rattle.rewriting.specs.declared.refusal.StepRefusal.{StepRefusal}
 use Rattle.rewriting.specs.declared.refusal.StepRefusal.TheVariants.{NoRule, NotStanding, BadAtoms, BadTie, TwoConstants, SetsDiffer, UnnamedJoined, TooLarge, Full}
-use Rattle.rewriting.specs.declared.rows.Row.{Row}
+use Rattle.queries.specs.declared.row.Row.{Row}
+use Rattle.queries.specs.Rows.{row_atoms}
 use Rattle.notation.specs.declared.terms.End.{End as WrittenEnd}
 use Rattle.notation.specs.declared.terms.End.TheVariants as written
 use Rattle.notation.specs.declared.terms.Tie.{Tie}
@@ -21,7 +22,9 @@ use Rattle.rewriting.specs.declared.steps.Step.{Step as WrittenStep}
 use Rattle.rewriting.specs.declared.steps.Owner.{Owner}
 use Rattle.rewriting.specs.declared.steps.Owner.TheVariants as owner
 use Rattle.rewriting.specs.Judging.{Ledger, Outcome, enters, refuses, Read, read, refused, part_tested, standing}
-use Rattle.rewriting.specs.Steps.{Query, Ref, in_rule, in_copy, End, c, r, q, Part, Step, nth, at_numbers, off_numbers, Piece, piece}
+use Rattle.rewriting.specs.declared.places.StepTerm.{StepTerm}
+use Rattle.rewriting.specs.declared.places.StepTerm.TheVariants as step_term
+use Rattle.rewriting.specs.Steps.{Query, Ref, fixed, own, copy, in_rule, in_copy, End, c, r, q, Part, Step, nth, at_numbers, off_numbers, Piece, piece}
 
 abbrev pub end_of : WrittenEnd → End
 end_of (written.Constant k) = c k
@@ -42,6 +45,12 @@ abbrev pub ref_of : Owner → Term → Ref
 ref_of owner.Rule t = in_rule t
 ref_of (owner.Part i) t = in_copy i t
 
+-- a term of a step
+abbrev pub step_ref : StepTerm → Ref
+step_ref (step_term.Constant k) = fixed k
+step_ref (step_term.Rule k) = own k
+step_ref (step_term.Copy i k) = copy i k
+
 -- atoms as logic has them
 abbrev pub logic_atoms : List (WrittenAtom WrittenTerm) → List (Atom Term)
 logic_atoms as' = map query_atom as'
@@ -58,10 +67,6 @@ named_side f o ns i as' = map (rename f) (side o ns i as')
 
 abbrev pub rule_meant : WrittenRule → Rule
 rule_meant u = meant (rule_of u)
-
--- the atoms of a row
-abbrev pub row_atoms : Row → List (WrittenAtom WrittenTerm)
-row_atoms w = take w.count w.atoms
 
 -- each row is a query
 abbrev pub all_valid : List Row → Bool
@@ -87,7 +92,7 @@ stands_at rows k = first_stands (nth k rows)
 -- the query of a row that stands, as a list of one, or none
 abbrev pub row_standing : List Row → List Query
 row_standing [] = []
-row_standing (w ∷ ws) = cond w.standing (logic_atoms (row_atoms w) ∷ []) []
+row_standing (w ∷ ws) = if w.standing then logic_atoms (row_atoms w) ∷ [] else []
 
 -- the rules and the rows are those of the ledger s: each number's query stands as its row says
 pub record Shows (rules : List WrittenRule) (rows : List Row) (s : Ledger) : Type 0 where

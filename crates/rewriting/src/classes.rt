@@ -1,96 +1,123 @@
 // The table of classes that ties make: at the place of each term the place of its class's name.
-ghost use Rattle.std.specs.Prelude.{◌≡◌, ◌<◌, not, ◌++◌, map};
+ghost use Rattle.std.specs.Prelude.{◌≡◌, ◌<◌, ◌++◌, map, slice_index};
 ghost use Rattle.std.specs.List.{range_with_len};
-ghost use Rattle.rewriting.specs.Classes.{classes as renamings, name_in};
+ghost use Rattle.rewriting.specs.Classes.{class_name, same_ref};
 ghost use Rattle.rewriting.specs.Computing.{all};
 ghost use Rattle.rewriting.specs.Joining.{relabelled, joined_table, written_ties};
 ghost use Rattle.rewriting.specs.Judging.{ends, constant_alone};
-ghost use Rattle.rewriting.specs.Steps.{Ties};
-ghost use Rattle.rewriting.specs.Tables.{Names, Groups, ties_from, TiesWithin};
-ghost use Rattle.rewriting.specs.Written.{part_of};
+ghost use Rattle.rewriting.specs.Steps.{Ref, Ties};
+ghost use Rattle.rewriting.specs.Tables.{Names, Groups, ties_from, TiesWithin, place};
+ghost use Rattle.rewriting.specs.Written.{part_of, step_ref};
 
-use crate::places::{TERMS, end_place};
+use crate::places::{Placed, StepTerm, TERMS};
 use crate::steps::Part;
 use notation::terms::Tie;
+use std::array::from_fn;
 
 const CONSTANTS: usize = 1000;
 
-// Each term its own class.
-fn apart() -> [u16; TERMS]
-    ensures { result ≡ range_with_len 0 1160 }
-{
-    let mut table = [0u16; TERMS];
-    for i in 0..TERMS {
-        table[i] = i as u16;
-    }
-    table
+// By value through the joining of ties and the tests: nothing here may want memory.
+// Which ties they are the classes of is said in the clauses: the ties are in none of the fields, so that the type cannot.
+#[derive(Clone, Copy)]
+pub struct Classes {
+    pub(crate) names: [u16; TERMS],
 }
 
-// Each entry `from` made `to`.
-fn relabel(mut table: [u16; TERMS], from: u16, to: u16) -> [u16; TERMS]
-    ensures { result ≡ map (relabelled from to) table }
+// `to` in place of `from`.
+fn replaced(name: u16, from: u16, to: u16) -> u16
+    ensures { result ≡ relabelled from to name }
 {
-    for i in 0..TERMS {
-        if table[i] == from {
-            table[i] = to;
+    if name == from { to } else { name }
+}
+
+impl Classes {
+    // Each term its own class.
+    fn apart() -> Classes
+        ensures { result.names ≡ range_with_len 0 1160 }
+    {
+        Classes {
+            names: from_fn(|i| i as u16),
         }
     }
-    table
-}
 
-// The classes of the places a and b made one: a name that is a constant stays.
-fn join(table: [u16; TERMS], a: usize, b: usize) -> [u16; TERMS]
-    requires { (a < 1160) × (b < 1160) }
-    ensures { result ≡ joined_table table a b }
-{
-    let first = table[a];
-    let second = table[b];
-    if (first as usize) < CONSTANTS {
-        relabel(table, second, first)
-    } else {
-        relabel(table, first, second)
-    }
-}
-
-// The ties of part i joined, the last first.
-fn join_part(mut table: [u16; TERMS], i: usize, ties: &[Tie]) -> [u16; TERMS]
-    requires { TiesWithin (written_ties i ties.now) }
-    ensures { (ts : Ties) → Names table (name_in (renamings ts)) → Names result (name_in (renamings (written_ties i ties.now ++ ts))) }
-{
-    let mut j = ties.len();
-    while j > 0 {
-        j -= 1;
-        let tie = ties[j];
-        let joined = join(table, end_place(i, tie.left), end_place(i, tie.right));
-        table = joined;
-    }
-    table
-}
-
-// The classes that the ties of all parts make.
-pub fn classes_of(parts: &[Part]) -> [u16; TERMS]
-    requires { TiesWithin (ties_from 0 (map part_of parts.now)) }
-    ensures names { Names result (name_in (renamings (ties_from 0 (map part_of parts.now)))) }
-    ensures groups { Groups result (ties_from 0 (map part_of parts.now)) }
-{
-    let mut table = apart();
-    let mut j = parts.len();
-    while j > 0 {
-        j -= 1;
-        let joined = join_part(table, j, &parts[j].ties);
-        table = joined;
-    }
-    table
-}
-
-// Whether some class has two different constants: then one of them is not its own name.
-pub fn two_constants(table: [u16; TERMS]) -> bool
-    ensures { (ts : Ties) → TiesWithin ts → Names table (name_in (renamings ts)) → not result ≡ all (constant_alone (name_in (renamings ts))) (ends ts) }
-{
-    for k in 0..CONSTANTS {
-        if table[k] as usize != k {
-            return true;
+    // Each name `from` made `to`.
+    fn renamed(self, from: u16, to: u16) -> Classes
+        ensures { result.names ≡ map (relabelled from to) self.names }
+    {
+        Classes {
+            names: self.names.map(move |name| replaced(name, from, to)),
         }
     }
-    false
+
+    // The classes of the terms made one: a name that is a constant stays.
+    fn joined(self, x: Placed, y: Placed) -> Classes
+        ensures { result.names ≡ joined_table self.names (place (step_ref x.term)) (place (step_ref y.term)) }
+    {
+        let first = self.name(x);
+        let second = self.name(y);
+        if (first as usize) < CONSTANTS {
+            self.renamed(second, first)
+        } else {
+            self.renamed(first, second)
+        }
+    }
+
+    // The ties of part i joined too, the last first.
+    fn with_ties(self, i: usize, ties: &[Tie]) -> Classes
+        requires { TiesWithin (written_ties i ties.now) }
+        ensures { (ts : Ties) → Names self.names (class_name ts)
+            → Names result.names (class_name (written_ties i ties.now ++ ts)) }
+    {
+        let mut classes = self;
+        for tie in ties.iter().rev() {
+            let left = Placed {
+                term: StepTerm::of_end(i, tie.left),
+            };
+            let right = Placed {
+                term: StepTerm::of_end(i, tie.right),
+            };
+            classes = classes.joined(left, right);
+        }
+        classes
+    }
+
+    // The classes that the ties of all parts make.
+    pub(crate) fn of(parts: &[Part]) -> Classes
+        requires { TiesWithin (ties_from 0 (map part_of parts.now)) }
+        ensures names { Names result.names (class_name (ties_from 0 (map part_of parts.now))) }
+        ensures groups { Groups result.names (ties_from 0 (map part_of parts.now)) }
+    {
+        let mut classes = Classes::apart();
+        for (i, part) in parts.iter().enumerate().rev() {
+            classes = classes.with_ties(i, &part.ties);
+        }
+        classes
+    }
+
+    // Whether no class has two different constants: each constant is its own name.
+    pub(crate) fn constants_apart(self) -> bool
+        ensures { (ts : Ties) → TiesWithin ts → Names self.names (class_name ts)
+            → result ≡ all (constant_alone (class_name ts)) (ends ts) }
+    {
+        self.names
+            .iter()
+            .take(CONSTANTS)
+            .enumerate()
+            .all(|(k, name)| *name as usize == k)
+    }
+
+    // The name of a term's class.
+    pub(crate) fn name(&self, x: Placed) -> u16
+        ensures { result ≡ slice_index self.now.names (place (step_ref x.term)) }
+    {
+        self.names[x.place()]
+    }
+
+    // Whether two terms are in one class.
+    pub(crate) fn join(&self, x: Placed, y: Placed) -> bool
+        ensures { (f : Ref → Ref) → Names self.now.names f
+            → result ≡ same_ref (f (step_ref x.term)) (f (step_ref y.term)) }
+    {
+        self.name(x) == self.name(y)
+    }
 }

@@ -1,160 +1,90 @@
 // Whether taken atoms and head atoms become the same set under the classes: a question that writes nothing.
-ghost use Rattle.std.specs.Prelude.{◌≡◌, ◌<◌, true, ◌&&◌, List, map};
-ghost use Rattle.notation.specs.Fits.{term_fits, terms_fit, atom_fits};
-ghost use Rattle.notation.specs.Logic.{as_term, terms_of, query_atom, rename, Atom as LogicAtom, Term as LogicTerm};
-ghost use Rattle.queries.specs.Checks.{atoms_all_fit};
+ghost use Rattle.std.specs.Prelude.{◌≡◌, [], map};
+ghost use Rattle.notation.specs.Logic.{rename};
 ghost use Rattle.rewriting.specs.Classes.{same_ref};
-ghost use Rattle.rewriting.specs.Computing.{same_list, same_atom, any, all};
+ghost use Rattle.rewriting.specs.Computing.{same_atom, same_list, any};
 ghost use Rattle.rewriting.specs.Judging.{within, sets_meet as sets_meet_in};
-ghost use Rattle.rewriting.specs.Steps.{Ref, piece};
-ghost use Rattle.rewriting.specs.Tables.{Within, OwnerWithin, Names};
-ghost use Rattle.rewriting.specs.Written.{ref_of, logic_atoms, named_side, part_of};
+ghost use Rattle.rewriting.specs.Pieces.{atom_of, terms_meant, atoms_meant, piece_of};
+ghost use Rattle.rewriting.specs.Steps.{Ref};
+ghost use Rattle.rewriting.specs.Tables.{Names};
 
-use crate::numbers::listed;
-use crate::places::{TERMS, place};
-use crate::steps::{Owner, Part};
-use notation::terms::{Atom, Term, Terms};
+use crate::classes::Classes;
+use crate::pieces::{Piece, Side, StepAtom};
+use notation::terms::Terms;
 
-// Whether two terms, each of its owner's, are in one class.
-fn one_class(table: &[u16; TERMS], owner: Owner, t: Term, other: Owner, u: Term) -> bool
-    requires left { Within (ref_of owner (as_term t)) }
-    requires right { Within (ref_of other (as_term u)) }
-    ensures { (f : Ref → Ref) → Names table.now f → result ≡ same_ref (f (ref_of owner (as_term t))) (f (ref_of other (as_term u))) }
-{
-    table[place(owner, t)] == table[place(other, u)]
-}
+impl Classes {
+    // Whether two atoms become the same once every term is replaced by its class.
+    fn make_same(&self, first: StepAtom, second: StepAtom) -> bool
+        ensures { (f : Ref → Ref) → Names self.now.names f
+            → result ≡ same_atom same_ref (rename f (atom_of first)) (rename f (atom_of second)) }
+    {
+        first.atom.predicate == second.atom.predicate && self.join_terms(first, second)
+    }
 
-// Whether the terms, each list of its owner's, are as many, and one by one in one class.
-fn one_classes(
-    table: &[u16; TERMS],
-    owner: Owner,
-    ts: Terms<Term>,
-    other: Owner,
-    us: Terms<Term>,
-) -> bool
-    requires fits { terms_fit term_fits ts ≡ true }
-    requires other_fits { terms_fit term_fits us ≡ true }
-    requires owned { OwnerWithin owner }
-    requires other_owned { OwnerWithin other }
-    ensures { (f : Ref → Ref) → Names table.now f → result ≡ same_list same_ref (map f (map (ref_of owner) (map as_term (terms_of ts)))) (map f (map (ref_of other) (map as_term (terms_of us)))) }
-{
-    match (ts, us) {
-        (Terms::One(a), Terms::One(b)) => one_class(table, owner, a, other, b),
-        (Terms::Two(a, c), Terms::Two(b, d)) => one_class(table, owner, a, other, b)
-            && one_class(table, owner, c, other, d),
-        (Terms::Three(a, c, e), Terms::Three(b, d, f)) => {
-            one_class(table, owner, a, other, b)
-                && one_class(table, owner, c, other, d)
-                && one_class(table, owner, e, other, f)
+    // Arm by arm: terms are paired with terms, which no method of one of them does more plainly.
+    // Whether their terms are as many, and one by one in one class.
+    fn join_terms(&self, first: StepAtom, second: StepAtom) -> bool
+        ensures { (f : Ref → Ref) → Names self.now.names f
+            → result ≡ same_list same_ref (map f (terms_meant first)) (map f (terms_meant second)) }
+    {
+        match (first.atom.terms, second.atom.terms) {
+            (Terms::One(a), Terms::One(b)) => self.join(first.term(a), second.term(b)),
+            (Terms::Two(a, c), Terms::Two(b, d)) => {
+                self.join(first.term(a), second.term(b)) && self.join(first.term(c), second.term(d))
+            }
+            (Terms::Three(a, c, e), Terms::Three(b, d, f)) => {
+                self.join(first.term(a), second.term(b))
+                    && self.join(first.term(c), second.term(d))
+                    && self.join(first.term(e), second.term(f))
+            }
+            (Terms::Four(a, c, e, g), Terms::Four(b, d, f, h)) => {
+                self.join(first.term(a), second.term(b))
+                    && self.join(first.term(c), second.term(d))
+                    && self.join(first.term(e), second.term(f))
+                    && self.join(first.term(g), second.term(h))
+            }
+            _ => false,
         }
-        (Terms::Four(a, c, e, g), Terms::Four(b, d, f, h)) => {
-            one_class(table, owner, a, other, b)
-                && one_class(table, owner, c, other, d)
-                && one_class(table, owner, e, other, f)
-                && one_class(table, owner, g, other, h)
-        }
-        _ => false,
     }
 }
 
-// Whether two atoms, each of its owner's, become the same once every term is replaced by its class.
-fn become_same(
-    table: &[u16; TERMS],
-    owner: Owner,
-    a: Atom<Term>,
-    other: Owner,
-    b: Atom<Term>,
-) -> bool
-    requires fits { atom_fits term_fits a ≡ true }
-    requires other_fits { atom_fits term_fits b ≡ true }
-    requires owned { OwnerWithin owner }
-    requires other_owned { OwnerWithin other }
-    ensures { (f : Ref → Ref) → Names table.now f → result ≡ same_atom same_ref (rename f (rename (ref_of owner) (query_atom a))) (rename f (rename (ref_of other) (query_atom b))) }
-{
-    a.predicate == b.predicate && one_classes(table, owner, a.terms, other, b.terms)
-}
-
-// Whether an atom of the owner's becomes the same as one of the other's atoms at the numbers.
-fn met(
-    table: &[u16; TERMS],
-    owner: Owner,
-    a: Atom<Term>,
-    other: Owner,
-    atoms: &[Atom<Term>],
-    numbers: &[usize],
-) -> bool
-    requires fits { atom_fits term_fits a ≡ true }
-    requires other_fits { atoms_all_fit atoms.now ≡ true }
-    requires owned { OwnerWithin owner }
-    requires other_owned { OwnerWithin other }
-    ensures { (f : Ref → Ref) → Names table.now f → result ≡ any (same_atom same_ref (rename f (rename (ref_of owner) (query_atom a)))) (named_side f other numbers.now 0 atoms.now) }
-{
-    for (j, b) in atoms.iter().enumerate() {
-        if !listed(numbers, j) {
-            continue;
+impl<'a> Side<'a> {
+    // Whether an atom becomes the same as one of those that are meant.
+    fn meets(&self, classes: &Classes, a: StepAtom) -> bool
+        ensures { (f : Ref → Ref) → Names classes.now.names f
+            → result ≡ any (same_atom same_ref (rename f (atom_of a))) (map (rename f) (atoms_meant self.now)) }
+    {
+        // a loop, as below: `any` and `all` over a test that promises something for each naming did not prove
+        for (j, own) in self.atoms.iter().enumerate() {
+            if self.numbers.contains(&j) && classes.make_same(a, self.atom(*own)) {
+                return true;
+            }
         }
-        if become_same(table, owner, a, other, *b) {
-            return true;
-        }
+        false
     }
-    false
-}
 
-// Whether each of the owner's atoms at the numbers becomes the same as one of the other's.
-fn all_met(
-    table: &[u16; TERMS],
-    owner: Owner,
-    atoms: &[Atom<Term>],
-    numbers: &[usize],
-    other: Owner,
-    others: &[Atom<Term>],
-    other_numbers: &[usize],
-) -> bool
-    requires fits { atoms_all_fit atoms.now ≡ true }
-    requires other_fits { atoms_all_fit others.now ≡ true }
-    requires owned { OwnerWithin owner }
-    requires other_owned { OwnerWithin other }
-    ensures { (f : Ref → Ref) → Names table.now f → result ≡ within (named_side f owner numbers.now 0 atoms.now) (named_side f other other_numbers.now 0 others.now) }
-{
-    for (j, a) in atoms.iter().enumerate() {
-        if !listed(numbers, j) {
-            continue;
+    // Whether each atom that is meant becomes the same as one of the other's.
+    fn within(&self, classes: &Classes, other: &Side<'_>) -> bool
+        ensures { (f : Ref → Ref) → Names classes.now.names f
+            → result ≡ within (map (rename f) (atoms_meant self.now)) (map (rename f) (atoms_meant other.now)) }
+    {
+        for (j, a) in self.atoms.iter().enumerate() {
+            if self.numbers.contains(&j) && !other.meets(classes, self.atom(*a)) {
+                return false;
+            }
         }
-        if !met(table, owner, *a, other, others, other_numbers) {
-            return false;
-        }
+        true
     }
-    true
 }
 
-// Whether the atoms that part i takes from the query and those that it names of the head become the same set.
-pub(crate) fn sets_meet(
-    table: [u16; TERMS],
-    i: usize,
-    head: &[Atom<Term>],
-    query: &[Atom<Term>],
-    part: &Part,
-) -> bool
-    requires part { i < 4 }
-    requires head { atoms_all_fit head.now ≡ true }
-    requires query { atoms_all_fit query.now ≡ true }
-    ensures { (f : Ref → Ref) (b : List (LogicAtom LogicTerm)) → Names table f → result ≡ sets_meet_in f (piece i b (logic_atoms head.now) (logic_atoms query.now) (part_of part.now)) }
-{
-    all_met(
-        &table,
-        Owner::Part(i),
-        query,
-        &part.taken,
-        Owner::Rule,
-        head,
-        &part.named,
-    ) && all_met(
-        &table,
-        Owner::Rule,
-        head,
-        &part.named,
-        Owner::Part(i),
-        query,
-        &part.taken,
-    )
+impl<'a> Piece<'a> {
+    // Whether the atoms taken from the query and those named of the head become the same set.
+    pub(crate) fn sets_meet(&self, classes: Classes) -> bool
+        ensures { (f : Ref → Ref) → Names classes.names f
+            → result ≡ sets_meet_in f (piece_of [] self.now) }
+    {
+        let taken = self.taken();
+        let named = self.named();
+        taken.within(&classes, &named) && named.within(&classes, &taken)
+    }
 }

@@ -1,9 +1,10 @@
-// The places of a step's terms in a table of classes: 1,000 constants, 32 variables of the rule, 32 of each of four copies.
+// The terms of a step, and their places in a table of classes: 1,000 constants, 32 variables of the rule, 32 of each of four
+// copies.
 ghost use Rattle.std.specs.Prelude.{◌≡◌, ◌<◌};
-ghost use Rattle.notation.specs.Logic.{as_term, var};
+ghost use Rattle.notation.specs.Logic.{as_term};
 ghost use Rattle.rewriting.specs.Steps.{end};
-ghost use Rattle.rewriting.specs.Tables.{place as place_in_table, Within};
-ghost use Rattle.rewriting.specs.Written.{ref_of, end_of};
+ghost use Rattle.rewriting.specs.Tables.{place as place_in_table, Within, Within-prop};
+ghost use Rattle.rewriting.specs.Written.{ref_of, end_of, step_ref};
 
 use crate::steps::Owner;
 use notation::terms::{End, Term};
@@ -16,39 +17,55 @@ pub(crate) const COPIES: usize = 1032;
 
 pub(crate) const VARIABLES: usize = 32;
 
-// The place of the owner's variable k.
-fn variable(owner: Owner, k: usize) -> usize
-    requires { Within (ref_of owner (var k)) }
-    ensures value { result ≡ place_in_table (ref_of owner (var k)) }
-    ensures inside { result < 1160 }
-{
-    match owner {
-        Owner::Rule => RULE + k,
-        Owner::Part(i) => COPIES + VARIABLES * i + k,
+// A term of a step: all parts have the constants and the rule's variables in common, and each has the variables of its own
+// copy of its query.
+#[derive(Clone, Copy, PartialEq, Eq)]
+pub enum StepTerm {
+    Constant(u16),
+    Rule(u8),
+    Copy(usize, u8),
+}
+
+impl StepTerm {
+    // A term of the owner's.
+    pub(crate) fn of(owner: Owner, t: Term) -> StepTerm
+        ensures { step_ref result ≡ ref_of owner (as_term t) }
+    {
+        match (owner, t) {
+            (_, Term::Constant(k)) => StepTerm::Constant(k),
+            (Owner::Rule, Term::Variable(k)) => StepTerm::Rule(k),
+            (Owner::Part(i), Term::Variable(k)) => StepTerm::Copy(i, k),
+        }
+    }
+
+    // The end of a tie of part i.
+    pub(crate) fn of_end(i: usize, e: End) -> StepTerm
+        ensures { step_ref result ≡ end i (end_of e) }
+    {
+        match e {
+            End::Constant(k) => StepTerm::Constant(k),
+            End::Rule(k) => StepTerm::Rule(k),
+            End::Copy(k) => StepTerm::Copy(i, k),
+        }
     }
 }
 
-// The place of a term of the owner's.
-pub(crate) fn place(owner: Owner, t: Term) -> usize
-    requires { Within (ref_of owner (as_term t)) }
-    ensures value { result ≡ place_in_table (ref_of owner (as_term t)) }
-    ensures inside { result < 1160 }
-{
-    match t {
-        Term::Constant(k) => k as usize,
-        Term::Variable(k) => variable(owner, k as usize),
-    }
+// A term that has a place: its number is one of those that there are.
+#[derive(Clone, Copy)]
+pub struct Placed {
+    pub(crate) term: StepTerm,
+    ghost within: { Within (step_ref term) } by { Within-prop (step_ref term) },
 }
 
-// The place of the end of a tie of part i.
-pub(crate) fn end_place(i: usize, e: End) -> usize
-    requires { Within (end i (end_of e)) }
-    ensures value { result ≡ place_in_table (end i (end_of e)) }
-    ensures inside { result < 1160 }
-{
-    match e {
-        End::Constant(k) => k as usize,
-        End::Rule(k) => RULE + k as usize,
-        End::Copy(k) => COPIES + VARIABLES * i + k as usize,
+impl Placed {
+    pub(crate) fn place(self) -> usize
+        ensures value { result ≡ place_in_table (step_ref self.term) }
+        ensures inside { result < 1160 }
+    {
+        match self.term {
+            StepTerm::Constant(k) => k as usize,
+            StepTerm::Rule(k) => RULE + k as usize,
+            StepTerm::Copy(i, k) => COPIES + VARIABLES * i + k as usize,
+        }
     }
 }

@@ -1,6 +1,7 @@
 pub mod Meeting
 pub mod Narrowing
 pub mod Places
+pub mod Routing
 pub mod Extending
 pub mod Starting
 pub mod Asking

@@ -1,22 +1,13 @@
 -- Places of a list, and givings that make each atom a fact.
-use Rattle.std.proofs.Common.{◌≡◌, ℕ, zero, suc, ◌<◌, List, [], ◌∷◌, length, Some, sym, ap, subst, arith}
+use Rattle.std.proofs.Common.{◌≡◌, ℕ, suc, List, [], ◌∷◌, Some, sym, ap, subst}
 use Rattle.std.specs.List.{slice_get}
-use Rattle.std.proofs.lemmas.Option.{slice_get_past}
 use Rattle.notation.specs.Logic.{Term, Atom, In, here, there, rename, Facts}
 use Rattle.search.specs.Holding.{put, Makes}
-
-pub within_from_nth : {X : Type 0} (xs : List X) (k : ℕ) (x : X) → slice_get xs k ≡ Some x → k < length xs
-within_from_nth xs k x e = grind (arith, slice_get_past)
 
 pub place_from_in : {X : Type 0} (x : X) (xs : List X) → In x xs → (k : ℕ) × (slice_get xs k ≡ Some x)
 place_from_in x [] i = elim i [ ]
 place_from_in x (y ∷ ys) (here e) = (0, ap Some (sym e))
 place_from_in x (y ∷ ys) (there i) = let p = place_from_in x ys i in (suc p.0, p.1)
-
-pub in_from_place : {X : Type 0} (x : X) (xs : List X) (k : ℕ) → slice_get xs k ≡ Some x → In x xs
-in_from_place x [] k e = absurd (let z : ◌≡◌ {A = ℕ} 0 1 = cc in omega arith)
-in_from_place x (y ∷ ys) zero e = here (cc)
-in_from_place x (y ∷ ys) (suc k) e = there (in_from_place x ys k e)
 
 pub makes_none : (h : ℕ → Term) (facts : Facts) → Makes h [] facts
 makes_none h facts a i = elim i [ ]

@@ -1,10 +1,9 @@
 -- The lowest of several rules that is not kept.
-use Rattle.std.proofs.Common.{◌≡◌, ℕ, ◌<◌, true, List, [], ◌∷◌, map, length, get_or, take, sym, refl, ap, ◌∙◌, subst}
-use Rattle.std.proofs.lemmas.List.{get_or-map}
+use Rattle.std.proofs.Common.{◌≡◌, true, List, [], ◌∷◌, map, take, refl, ap}
 use Rattle.std.proofs.lemmas.Bool.{and_parts, and_from}
 use Rattle.notation.specs.declared.terms.Atom.{Atom}
 use Rattle.notation.specs.declared.terms.Term.{Term}
-use Rattle.notation.specs.Logic.{Facts, query_atom}
+use Rattle.notation.specs.Logic.{query_atom}
 use Rattle.queries.specs.declared.rule.Rule.{Rule as WrittenRule}
 use Rattle.queries.specs.Heads.{head_atoms, body_atoms}
 use Rattle.queries.specs.RuleChecks.{heads_fine}
@@ -12,8 +11,7 @@ use Rattle.queries.specs.Rules.{rule_of}
 use Rattle.queries.specs.declared.head.Head.{Head}
 use Rattle.search.specs.Checking.{heads_fit, read_head, rule_of as checked_rule}
 use Rattle.search.specs.Fitting.{variables_fit}
-use Rattle.search.specs.Keeping.{Keeps}
-use Rattle.search.specs.Rules.{meant, BrokenAt}
+use Rattle.search.specs.Rules.{meant}
 use Rattle.search.proofs.Asking.{fine_fits}
 
 pub body_fits : (r : WrittenRule) → variables_fit (body_atoms r.body) ≡ true
@@ -33,13 +31,3 @@ read_twice (h ∷ hs) = ap (λ l. read_head h ∷ l) (read_twice hs)
 -- a rule value and its parts mean the same
 pub meant_is : (r : WrittenRule) → checked_rule (body_atoms r.body) (take r.count r.heads) ≡ meant (rule_of r)
 meant_is r = ap (λ hs. record { body = map query_atom (body_atoms r.body); heads = hs }) (read_twice (take r.count r.heads))
-
-at_number : (rs : List WrittenRule) (k : ℕ) (r : WrittenRule) → k < length rs → r ≡ get_or rs k r → get_or (map rule_of rs) k ([], []) ≡ rule_of r
-at_number rs k r h is = get_or-map rule_of rs k r ([], []) h ∙ ap rule_of (sym is)
-
--- the rule with number k
-pub broken_at : (rs : List WrittenRule) (l : Facts) (k : ℕ) (r : WrittenRule) → k < length rs → r ≡ get_or rs k r → (Keeps (meant (rule_of r)) l → ⊥) → BrokenAt (map rule_of rs) l k
-broken_at rs l k r h is no-keep kept = no-keep (subst (λ x. Keeps (meant x) l) (at_number rs k r h is) kept)
-
-pub kept_at : (rs : List WrittenRule) (l : Facts) (k : ℕ) (r : WrittenRule) → k < length rs → r ≡ get_or rs k r → Keeps (meant (rule_of r)) l → BrokenAt (map rule_of rs) l k → ⊥
-kept_at rs l k r h is kept broken = broken (subst (λ x. Keeps (meant x) l) (sym (at_number rs k r h is)) kept)

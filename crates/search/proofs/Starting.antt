@@ -45,8 +45,8 @@ open_at zero v = refl
 open_at (suc n) zero = refl
 open_at (suc n) (suc v) = open_at n v
 
-pub open_agrees : (n : ℕ) (h : ℕ → Term) → Agrees h (replicate n None)
-open_agrees n h v x e = let o = open_at n v in cc
+pub open_agrees : (n : ℕ) (b : List (Option Value)) → b ≡ replicate n None → (h : ℕ → Term) → Agrees h b
+open_agrees n b none h v x e = let o = open_at n v in cc
 
-pub open_start : (facts : Facts) (q : List (Atom Term)) (n : ℕ) (r : Bool) → Decides r (HoldsFrom q (replicate n None) facts) → Decides r (Holds q facts)
-open_start facts q n r d = Decides-like r (λ p. (p.0, p.1.1)) (λ p. (p.0, (open_agrees n p.0, p.1))) d
+pub open_start : (facts : Facts) (q : List (Atom Term)) (n : ℕ) (b : List (Option Value)) (r : Bool) → b ≡ replicate n None → Decides r (HoldsFrom q b facts) → Decides r (Holds q facts)
+open_start facts q n b r none d = Decides-like r (λ p. (p.0, p.1.1)) (λ p. (p.0, (open_agrees n b none p.0, p.1))) d

@@ -1,6 +1,6 @@
 -- A binding has, for each variable, the value that it has been given so far, if any.
-use Rattle.std.specs.Prelude.{◌≡◌, ℕ, ◌<◌, Bool, List, [], ◌∷◌, Some, None, MatchBool, Option, slice_index_or}
-use Rattle.std.specs.List.{slice_get}
+use Rattle.std.specs.Prelude.{◌≡◌, ℕ, List, Some, None, MatchOption, Option, slice_index_or}
+use Rattle.std.specs.List.{AllZip}
 use Rattle.notation.specs.declared.terms.Term.{Term as WrittenTerm}
 use Rattle.notation.specs.declared.terms.Term.TheVariants as term
 use Rattle.notation.specs.declared.terms.Value.{Value}
@@ -22,24 +22,17 @@ pub record Narrowed (b : List (Option Value)) (P : (ℕ → Term) → Type 0) (b
 abbrev pub Clash : List (Option Value) → ((ℕ → Term) → Type 0) → Type 0
 Clash b P = (h : ℕ → Term) → Agrees h b → P h → ⊥
 
--- b was narrowed to b' by P, or rules P out
-abbrev pub Met : Bool → List (Option Value) → ((ℕ → Term) → Type 0) → List (Option Value) → Type 0
-Met r b P b' = MatchBool r (Narrowed b P b') (Clash b P)
+-- b was narrowed to b' by P, or, where there is no answer, rules P out
+abbrev pub Met : Option (Unit {0}) → List (Option Value) → ((ℕ → Term) → Type 0) → List (Option Value) → Type 0
+Met r b P b' = MatchOption r (Clash b P) (λ _. Narrowed b P b')
 
 -- the giving makes the term the value
 abbrev pub Meets : WrittenTerm → Value → (ℕ → Term) → Type 0
 Meets t x h = put h (as_term t) ≡ as_value x
 
--- there are as many terms as values, and R holds of each term and its value
-abbrev pub Each : (WrittenTerm → Value → Type 0) → List WrittenTerm → List Value → Type 0
-Each R [] [] = Unit {0}
-Each R [] (x ∷ xs) = ⊥
-Each R (t ∷ ts) [] = ⊥
-Each R (t ∷ ts) (x ∷ xs) = R t x × Each R ts xs
-
 -- the giving makes each term its value
 abbrev pub MeetsAll : List WrittenTerm → List Value → (ℕ → Term) → Type 0
-MeetsAll ts xs h = Each (λ t x. Meets t x h) ts xs
+MeetsAll ts xs h = AllZip (λ t x. Meets t x h) ts xs
 
 -- the giving makes the atom the fact
 abbrev pub Matches : WrittenAtom WrittenTerm → WrittenAtom Value → (ℕ → Term) → Type 0
@@ -52,12 +45,8 @@ Free b (term.Variable v) x = (y : Value) → slice_index_or b v None ≡ Some y 
 
 -- the atom and the fact have one predicate, and each term is free to be its value
 abbrev pub May : List (Option Value) → WrittenAtom WrittenTerm → WrittenAtom Value → Type 0
-May b a f = (a.predicate ≡ f.predicate) × Each (Free b) (terms_of a.terms) (terms_of f.terms)
+May b a f = (a.predicate ≡ f.predicate) × AllZip (Free b) (terms_of a.terms) (terms_of f.terms)
 
 -- some giving that agrees with b makes each atom a fact of the list
 abbrev pub HoldsFrom : List (Atom Term) → List (Option Value) → Facts → Type 0
 HoldsFrom q b facts = (h : ℕ → Term) × (Agrees h b × Makes h q facts)
-
--- Q holds of each giving that agrees with b, makes a one of the first n facts, and the rest facts of the list
-abbrev pub Settled : ((ℕ → Term) → Type 0) → Atom Term → List (Atom Term) → List (Option Value) → Facts → ℕ → Type 0
-Settled Q a rest b facts n = (h : ℕ → Term) → Agrees h b → Makes h rest facts → (k : ℕ) → k < n → slice_get facts k ≡ Some (rename (put h) a) → Q h

@@ -4,23 +4,18 @@ ghost use Rattle.std.specs.List.{slice_get};
 ghost use Rattle.notation.specs.Logic.{query_atom, fact_atom};
 ghost use Rattle.search.specs.Fitting.{slots_fit};
 ghost use Rattle.search.specs.Routes.{Covers, Leads};
-ghost use Rattle.search.specs.declared.guide.Route.{Route};
 
 use crate::matching::Binding;
-use notation::terms::{Atom, Fact, Term, Terms, Value};
+use notation::terms::{Atom, Fact, Term};
 use sources::Source;
-
-// What a guide follows through its places; only the guide that gave it knows what it means.
-#[derive(Clone, Copy)]
-pub struct Route {
-    pub at: usize,
-    pub key: u16,
-}
 
 // A source that knows which of its places are worth trying.
 pub trait Guide: Source {
+    // what it follows through its places
+    type Route: Copy;
+
     // whether a place lies on a route
-    ghost on: { Self → Route → ℕ → Bool };
+    ghost on: { Self → Self.Route → ℕ → Bool };
 
     // The fact at a place.
     fn at(&self, k: usize) -> Fact
@@ -28,16 +23,16 @@ pub trait Guide: Source {
         ensures { slice_get (Self.Source.facts self.now) k ≡ Some (fact_atom result) };
 
     // A route with every place at which the atom can be the fact.
-    fn route(&self, a: &Atom<Term>, b: &Binding) -> Route
+    fn route(&self, a: &Atom<Term>, b: &Binding) -> Self::Route
         requires { slots_fit a.now ≡ true }
         ensures { Covers (on self.now result) (query_atom a.now) b.now (Self.Source.facts self.now) };
 
-    // The first place of the route, or one past the end.
-    fn first(&self, c: Route) -> usize
+    // The first place of the route.
+    fn first(&self, c: Self::Route) -> Option<usize>
         ensures { Leads (on self.now c) (length (Self.Source.facts self.now)) 0 result };
 
-    // The next place of the route after k, or one past the end.
-    fn after(&self, c: Route, k: usize) -> usize
+    // The next place of the route after k.
+    fn after(&self, c: Self::Route, k: usize) -> Option<usize>
         requires inside { k < length (Self.Source.facts self.now) }
         requires along { on self.now c k ≡ true }
         ensures { Leads (on self.now c) (length (Self.Source.facts self.now)) (k + 1) result };
@@ -64,29 +59,32 @@ impl<'a, S: Source> Source for Plain<'a, S> {
     }
 }
 
+impl<'a, S: Source> Plain<'a, S> {
+    // Place k, where there is one.
+    fn place(&self, k: usize) -> Option<usize>
+        ensures { Leads (λ j. true) (length (S.Source.facts self.now.source.now)) k result }
+    {
+        (k < self.source.len()).then_some(k)
+    }
+}
+
 // Every place lies on every route.
 impl<'a, S: Source> Guide for Plain<'a, S> {
+    type Route = ();
+
     ghost on = { λ p c k. true };
 
     fn at(&self, k: usize) -> Fact {
-        if let Some(f) = self.source.fact(k) {
-            return f;
-        }
-        Atom {
-            predicate: 0,
-            terms: Terms::One(Value::Constant(0)),
-        }
+        self.source.fact(k).unwrap()
     }
 
-    fn route(&self, a: &Atom<Term>, b: &Binding) -> Route {
-        Route { at: 0, key: 0 }
+    fn route(&self, a: &Atom<Term>, b: &Binding) {}
+
+    fn first(&self, c: ()) -> Option<usize> {
+        self.place(0)
     }
 
-    fn first(&self, c: Route) -> usize {
-        0
-    }
-
-    fn after(&self, c: Route, k: usize) -> usize {
-        k + 1
+    fn after(&self, c: (), k: usize) -> Option<usize> {
+        self.place(k + 1)
     }
 }

@@ -7,11 +7,13 @@ ghost use Rattle.search.specs.Fitting.{variables_fit};
 ghost use Rattle.search.specs.Holding.{Holds};
 ghost use Rattle.search.specs.Bindings.{HoldsFrom};
 
+use crate::candidates::Candidates;
 use crate::guide::Guide;
-use crate::matching::{Binding, matched};
+use crate::matching::Binding;
 use notation::terms::{Atom, Term};
 use sources::Source;
 
+mod candidates;
 pub mod guide;
 pub mod laws;
 pub mod matching;
@@ -20,6 +22,8 @@ pub mod rules;
 
 // Whether the atoms hold with what `b` has given: they are tried in their order, and for each the places along
 // the route that `s` has for it, in ascending order.
+// That the variables fit stays a clause, here and in the other files: who calls has a slice, of which a type that says so
+// would have to be made, and to split it would be a call in place of a pattern.
 pub fn extends<G: Guide>(q: &[Atom<Term>], s: &G, b: &Binding) -> bool
     requires { variables_fit q.now ≡ true }
     ensures { Decides result (HoldsFrom (map query_atom q.now) b.now (G.Source.facts s.now)) }
@@ -27,16 +31,14 @@ pub fn extends<G: Guide>(q: &[Atom<Term>], s: &G, b: &Binding) -> bool
     match q {
         [] => true,
         [a, rest @ ..] => {
-            let c = s.route(a, b);
-            let n = s.len();
-            let mut out = *b;
-            let mut k = s.first(c);
-            while k < n {
-                let f = s.at(k);
-                if matched(b, a, &f, &mut out) && extends(rest, s, &out) {
-                    return true;
+            // As `any`, the closure that calls the search again needs clauses of its own, longer than this loop.
+            for f in Candidates::new(s, a, b) {
+                if b.may_match(a, &f) {
+                    let mut more = *b;
+                    if more.matched(a, &f).is_some() && extends(rest, s, &more) {
+                        return true;
+                    }
                 }
-                k = s.after(c, k);
             }
             false
         }
@@ -48,5 +50,5 @@ pub fn holds_atoms<G: Guide>(q: &[Atom<Term>], s: &G) -> bool
     requires { variables_fit q.now ≡ true }
     ensures { Decides result (Holds (map query_atom q.now) (G.Source.facts s.now)) }
 {
-    extends(q, s, &[None; 32])
+    extends(q, s, &Binding::new())
 }

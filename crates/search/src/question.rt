@@ -21,10 +21,5 @@ pub fn holds<G: Guide>(q: &Query, s: &G) -> bool
 pub fn lowest<G: Guide>(queries: &[Query], s: &G) -> Option<usize>
     ensures { LowestHeld (map atoms_of queries.now) (G.Source.facts s.now) result }
 {
-    for (k, q) in queries.iter().enumerate() {
-        if holds(q, s) {
-            return Some(k);
-        }
-    }
-    None
+    queries.iter().position(|q| holds(q, s))
 }

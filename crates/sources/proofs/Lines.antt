@@ -2,6 +2,7 @@
 use Rattle.std.proofs.Common.{◌≡◌, ℕ, ◌+◌, ◌≤◌, Bool, true, false, cond, eqb, List, [], ◌∷◌, ◌++◌, length, take, Some, None, Ok, Err, sym, refl, ap, ◌∙◌, arith}
 use Rattle.std.proofs.lemmas.List.{append-nil, append_assoc, length_push, take_all, take_at}
 use Rattle.std.proofs.lemmas.Bool.{cond-true, cond-false, eq-eqb, ne_eqb}
+use Rattle.std.specs.Result.{result_ok}
 use Rattle.notation.specs.declared.faults.LineFault.{LineFault}
 use Rattle.notation.specs.declared.terms.Atom.{Atom}
 use Rattle.notation.specs.declared.terms.Value.{Value}
@@ -9,7 +10,8 @@ use Rattle.notation.specs.Lines.{read_fact_line}
 use Rattle.notation.specs.Lists.{cut_at, onto_pieces, pieces}
 use Rattle.notation.proofs.Pieces.{pieces_more, pieces_end}
 use Rattle.sources.specs.Reading.{Parted}
-use Rattle.sources.specs.Text.{onto, told_from, text_facts, line_count, left_out_line}
+use Rattle.sources.specs.Facts.{onto}
+use Rattle.sources.specs.Text.{told_from, text_facts, line_count, left_out_line}
 
 -- the facts and the lines of the pieces of a text
 abbrev told : List ℕ × List (List ℕ) → List (Atom Value)
@@ -38,7 +40,7 @@ reached_more s fs left line rest f r cut is =
       facts_so_far =
           r.facts_so_far
           ∙ ap (λ ps. fs ++ told ps) split
-          ∙ ap (λ o. fs ++ onto o (told (pieces 10 rest))) (sym is)
+          ∙ ap (λ o. fs ++ onto (result_ok o) (told (pieces 10 rest))) (sym is)
           ∙ sym (append_assoc fs (f ∷ []) (told (pieces 10 rest)));
       lines_so_far =
           let n = r.lines_so_far in
@@ -89,4 +91,4 @@ module _ (s : List ℕ) (fs : List (Atom Value)) (left : List ℕ) (r : Reached 
     parted_last cut = parted_rest (ap told (pieces_end 10 left cut))
 
     pub parted_fault : (line rest : List ℕ) (e : LineFault) → Some (line, rest) ≡ cut_at 10 left → Err e ≡ read_fact_line line → Parted s fs left
-    parted_fault line rest e cut is = parted_rest (ap told (pieces_more 10 left line rest cut) ∙ ap (λ o. onto o (told (pieces 10 rest))) (sym is))
+    parted_fault line rest e cut is = parted_rest (ap told (pieces_more 10 left line rest cut) ∙ ap (λ o. onto (result_ok o) (told (pieces 10 rest))) (sym is))

@@ -1,3 +1,4 @@
+pub mod Facts
 pub mod Few
 pub mod Reading
 pub mod Rows

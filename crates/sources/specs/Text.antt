@@ -1,19 +1,16 @@
 -- The facts that a text tells, line by line.
-use Rattle.std.specs.Prelude.{ℕ, ◌+◌, cond, List, [], ◌∷◌, length, take, Ok, Err, Result, ◌==◌}
-use Rattle.notation.specs.declared.faults.LineFault.{LineFault}
+use Rattle.std.specs.Prelude.{ℕ, ◌+◌, cond, List, [], ◌∷◌, length, take, ◌==◌}
+use Rattle.std.specs.Result.{result_ok}
 use Rattle.notation.specs.declared.terms.Atom.{Atom}
 use Rattle.notation.specs.declared.terms.Value.{Value}
 use Rattle.notation.specs.Lines.{read_fact_line}
 use Rattle.notation.specs.Lists.{pieces}
-
-abbrev pub onto : Result (Atom Value) LineFault → List (Atom Value) → List (Atom Value)
-onto (Ok f) fs = f ∷ fs
-onto (Err e) fs = []
+use Rattle.sources.specs.Facts.{onto}
 
 -- the facts of the lines before the first that is no fact line; the last piece lacks its end
 abbrev pub told_from : List ℕ → List (List ℕ) → List (Atom Value)
 told_from line [] = []
-told_from line (next ∷ more) = onto (read_fact_line line) (told_from next more)
+told_from line (next ∷ more) = onto (result_ok (read_fact_line line)) (told_from next more)
 
 -- the facts that a text tells, 65,535 at most
 unfoldable pub text_facts : List ℕ → List (Atom Value)

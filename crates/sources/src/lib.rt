@@ -13,6 +13,9 @@ pub mod rows;
 pub mod stored;
 pub mod text;
 
+// The most facts that a source tells.
+const MOST: usize = 65535;
+
 // A source stands for one list of facts, of which it tells the length and each place.
 pub trait Source {
     // the list that it stands for

@@ -2,51 +2,19 @@
 ghost use Rattle.std.specs.Prelude.{◌≡◌, map};
 ghost use Rattle.std.specs.Option.{option_map};
 ghost use Rattle.std.specs.List.{slice_get};
-ghost use Rattle.notation.specs.Logic.{as_term, as_value, query_atom, fact_atom};
+ghost use Rattle.notation.specs.Logic.{query_atom, fact_atom};
 ghost use Rattle.queries.specs.Queries.{atoms_of};
 ghost use Rattle.sources.specs.Few.{query_few};
 
 use crate::Source;
-use notation::terms::{Atom, Fact, Term, Terms, Value};
+use notation::terms::{Atom, Fact, Term};
 use queries::query::Query;
 
-// The variable v of a query, taken as the unknown n of the same number.
-fn frozen_term(t: Term) -> Value
-    ensures { as_value result ≡ as_term t }
-{
-    match t {
-        Term::Constant(k) => Value::Constant(k),
-        Term::Variable(k) => Value::Unknown(k as u16),
-    }
-}
-
-fn frozen(a: Atom<Term>) -> Fact
-    ensures { fact_atom result ≡ query_atom a }
-{
-    let predicate = a.predicate;
-    let terms = match a.terms {
-        Terms::One(s) => Terms::One(frozen_term(s)),
-        Terms::Two(s, t) => Terms::Two(frozen_term(s), frozen_term(t)),
-        Terms::Three(s, t, u) => Terms::Three(frozen_term(s), frozen_term(t), frozen_term(u)),
-        Terms::Four(s, t, u, v) => Terms::Four(
-            frozen_term(s),
-            frozen_term(t),
-            frozen_term(u),
-            frozen_term(v),
-        ),
-    };
-    Atom { predicate, terms }
-}
-
-// The atom at place k as a fact.
+// The atom at place k as a fact: each variable is taken as the unknown of its number.
 fn frozen_at(atoms: &[Atom<Term>], k: usize) -> Option<Fact>
     ensures { option_map fact_atom result ≡ slice_get (map query_atom atoms.now) k }
 {
-    if k < atoms.len() {
-        Some(frozen(atoms[k]))
-    } else {
-        None
-    }
+    atoms.get(k).copied().map(Fact::from)
 }
 
 // The atoms of a query in order, each variable taken as the unknown of its number.

@@ -1,16 +1,15 @@
 // Facts from rows of numbers.
-ghost use Rattle.std.specs.Prelude.{◌≡◌, ◌<◌, map, length};
+ghost use Rattle.std.specs.Prelude.{◌≡◌, map, length};
 ghost use Rattle.std.specs.Option.{option_map};
 ghost use Rattle.std.specs.List.{slice_get};
 ghost use Rattle.notation.specs.Logic.{fact_atom};
 ghost use Rattle.sources.specs.Few.{rows_few};
 ghost use Rattle.sources.specs.Rows.{placed, terms_at, decoded, row_facts};
 
-use self::Place::{Unused, Used};
-use crate::Source;
+use crate::{MOST, Source};
 use notation::terms::{Fact, Terms, Value};
 
-// A predicate, a number of terms, and four codes, of which the unused ones are 0.
+// A predicate, a number of terms, and four codes, of which the unused ones are 0: a format of the project.
 #[derive(Clone, Copy)]
 pub struct Row {
     pub predicate: u16,
@@ -18,34 +17,32 @@ pub struct Row {
     pub codes: [u16; 4],
 }
 
-// What a code says at its place.
-#[derive(Clone, Copy)]
-pub enum Place {
-    Used(Value),
-    Unused,
-}
-
-// The place of a code.
-fn place_of(code: u16, used: bool) -> Option<Place>
+// What a code says at its place: a term where the place is used, and none where it is not.
+fn place_of(code: u16, used: bool) -> Option<Option<Value>>
     ensures { result ≡ placed used code }
 {
     match code {
-        0..=999 if used => Some(Used(Value::Constant(code))),
-        1000..=1999 if used => Some(Used(Value::Unknown(code - 1000))),
-        0 if !used => Some(Unused),
+        0..=999 if used => Some(Some(Value::Constant(code))),
+        1000..=1999 if used => Some(Some(Value::Unknown(code - 1000))),
+        0 if !used => Some(None),
         _ => None,
     }
 }
 
 // The terms at four places, of which the used ones come first.
-fn terms_at(a: Place, b: Place, c: Place, d: Place) -> Option<Terms<Value>>
+fn terms_at(
+    a: Option<Value>,
+    b: Option<Value>,
+    c: Option<Value>,
+    d: Option<Value>,
+) -> Option<Terms<Value>>
     ensures { result ≡ terms_at a b c d }
 {
     match (a, b, c, d) {
-        (Used(a), Unused, Unused, Unused) => Some(Terms::One(a)),
-        (Used(a), Used(b), Unused, Unused) => Some(Terms::Two(a, b)),
-        (Used(a), Used(b), Used(c), Unused) => Some(Terms::Three(a, b, c)),
-        (Used(a), Used(b), Used(c), Used(d)) => Some(Terms::Four(a, b, c, d)),
+        (Some(a), None, None, None) => Some(Terms::One(a)),
+        (Some(a), Some(b), None, None) => Some(Terms::Two(a, b)),
+        (Some(a), Some(b), Some(c), None) => Some(Terms::Three(a, b, c)),
+        (Some(a), Some(b), Some(c), Some(d)) => Some(Terms::Four(a, b, c, d)),
         _ => None,
     }
 }
@@ -54,7 +51,7 @@ fn terms_at(a: Place, b: Place, c: Place, d: Place) -> Option<Terms<Value>>
 fn decode(row: &Row) -> Option<Fact>
     ensures { result ≡ decoded row.now }
 {
-    if row.predicate > 31 || row.count < 1 || row.count > 4 {
+    if row.predicate > 31 || !(1..=4).contains(&row.count) {
         return None;
     }
     let a = place_of(row.codes[0], row.count >= 1)?;
@@ -72,24 +69,11 @@ fn decode(row: &Row) -> Option<Fact>
 fn count_facts(rows: &[Row]) -> usize
     ensures { result ≡ length (map fact_atom (row_facts rows.now)) }
 {
-    let most = rows.len().min(65535);
-    for k in 0..most {
-        if decode(&rows[k]).is_none() {
-            return k;
-        }
-    }
-    most
-}
-
-// The fact at place k of those that the rows tell.
-fn fact_at(rows: &[Row], k: usize) -> Option<Fact>
-    requires { k < length (map fact_atom (row_facts rows.now)) }
-    ensures { option_map fact_atom result ≡ slice_get (map fact_atom (row_facts rows.now)) k }
-{
-    decode(&rows[k])
+    rows.iter().map_while(decode).take(MOST).count()
 }
 
 // The facts of the rows before the first that is no fact, 65,535 at most.
+// The count stands beside the rows, and they are not cut to it: `new` promises them as they were given.
 #[derive(Clone, Copy)]
 pub struct RowSource<'a> {
     rows: &'a [Row],
@@ -119,10 +103,6 @@ impl<'a> Source for RowSource<'a> {
     }
 
     fn fact(&self, k: usize) -> Option<Fact> {
-        if k < self.count {
-            fact_at(self.rows, k)
-        } else {
-            None
-        }
+        self.rows[..self.count].get(k).and_then(decode)
     }
 }

@@ -3,8 +3,8 @@ ghost use Rattle.std.specs.Prelude.{◌≡◌, map, take};
 ghost use Rattle.notation.specs.Logic.{fact_atom};
 ghost use Rattle.sources.specs.Few.{stored_few};
 
-use crate::Source;
 use crate::text::fact_at;
+use crate::{MOST, Source};
 use notation::terms::Fact;
 
 // The facts of a slice, 65,535 at most.
@@ -19,14 +19,10 @@ impl<'a> Source for StoredSource<'a> {
     ghost few = { λ s. stored_few s.facts.now };
 
     fn len(&self) -> usize {
-        self.facts.len().min(65535)
+        self.facts.len().min(MOST)
     }
 
     fn fact(&self, k: usize) -> Option<Fact> {
-        if k < 65535 {
-            fact_at(self.facts, k)
-        } else {
-            None
-        }
+        fact_at(&self.facts[..self.len()], k)
     }
 }

@@ -1,12 +1,12 @@
 // Facts from a text, one to a line.
-ghost use Rattle.std.specs.Prelude.{◌≡◌, ◌≤◌, map, length, IfOk, vec_len};
+ghost use Rattle.std.specs.Prelude.{◌≡◌, ◌≤◌, map, length, IfOk};
 ghost use Rattle.std.specs.Option.{option_map};
 ghost use Rattle.std.specs.List.{slice_get};
 ghost use Rattle.notation.specs.Logic.{fact_atom};
-ghost use Rattle.sources.specs.Few.{counted_few};
+ghost use Rattle.sources.specs.Few.{text_few};
 ghost use Rattle.sources.specs.Reading.{Told, Parted};
 
-use crate::Source;
+use crate::{MOST, Source};
 use notation::lines::fact_line;
 use notation::lists::cut;
 use notation::terms::Fact;
@@ -18,7 +18,8 @@ fn read(heap: Global, text: &[u8]) -> Result<(Vec<Fact>, &[u8]), AllocError>
 {
     let mut facts = Vec::new(heap);
     let mut left = text;
-    while facts.len() < 65535 {
+    // No `for` over `split`: the text after the last fact is answered too.
+    while facts.len() < MOST {
         let Some((line, rest)) = cut(b'\n', left) else {
             break
         };
@@ -41,8 +42,7 @@ pub(crate) fn fact_at(facts: &[Fact], k: usize) -> Option<Fact>
 pub struct TextSource {
     facts: Vec<Fact>,
     left_out: usize,
-    ghost few: { vec_len facts ≤ 65535 },
-    ghost counted: { vec_len facts ≡ length (map fact_atom facts.items) },
+    ghost few: { length facts.items ≤ 65535 },
 }
 
 impl TextSource {
@@ -55,7 +55,7 @@ impl TextSource {
         Ok(TextSource { facts, left_out })
     }
 
-    // The number of the first line left out, counted from 1, or 0 if every line counts.
+    // The number of the first line left out, counted from 1, or 0 if every line counts: a format of the project.
     pub fn first_left_out(&self) -> usize
         ensures { result ≡ self.now.left_out }
     {
@@ -66,7 +66,7 @@ impl TextSource {
 impl Source for TextSource {
     ghost facts = { λ t. map fact_atom t.facts.items };
 
-    ghost few = { λ t. counted_few t.few t.counted };
+    ghost few = { λ t. text_few t.facts.items t.few };
 
     fn len(&self) -> usize {
         self.facts.len()

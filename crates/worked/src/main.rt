@@ -7,7 +7,7 @@ use std::{fs, io};
 
 const BUFFER: usize = 65536;
 
-// Whether the folder of this name prints what is stored for it.
+// Whether the folder of this name prints what is stored for it. The program matches the same three answers, and writes.
 fn as_stored(rt: &HostRuntime, name: &str) -> io::Result<bool> {
     let heap = rt.alloc();
     let folder = format!(in heap; "{name}.folder")?;

@@ -3,6 +3,7 @@ ghost use Rattle.std.specs.Prelude.{◌≡◌, ◌≤◌, map, length, IfOk, vec
 ghost use Rattle.notation.specs.Logic.{fact_atom};
 ghost use Rattle.index.specs.Keys.{keys_at};
 ghost use Rattle.index.specs.Indexed.{facts_of};
+ghost use Rattle.index.specs.Seek.{IsChain};
 
 use super::Index;
 use crate::chain::Chain;
@@ -11,16 +12,14 @@ use notation::terms::Fact;
 use sources::Source;
 use std::alloc::{AllocError, Global};
 
-// The facts of a source.
+// The facts of a source. As a chain of iterators it is no plainer: its closure needs a clause of its own.
 fn collect<S: Source>(heap: Global, s: &S) -> Result<Vec<Fact>, AllocError>
     ensures { IfOk result (λ v. (map fact_atom v.items ≡ S.Source.facts s.now) × (vec_len v ≤ 65535)) }
 {
     let n = s.len();
     let mut v = Vec::with_capacity(heap, n)?;
     for k in 0..n {
-        if let Some(f) = s.fact(k) {
-            v.push(f)?;
-        }
+        v.push(s.fact(k).unwrap())?;
     }
     Ok(v)
 }
@@ -28,9 +27,10 @@ fn collect<S: Source>(heap: Global, s: &S) -> Result<Vec<Fact>, AllocError>
 // The chain of facts by their terms at a position.
 fn chained(heap: Global, facts: &[Fact], at: usize) -> Result<Chain, AllocError>
     requires { length facts.now ≤ 65535 }
-    ensures { IfOk result (λ x. x.keys.items ≡ keys_at at (map fact_atom facts.now)) }
+    ensures { IfOk result (λ x. IsChain (keys_at at (map fact_atom facts.now)) x.first.items x.next.items) }
 {
-    Chain::new(heap, keys(heap, facts, at)?)
+    let keys = keys(heap, facts, at)?;
+    Chain::new(heap, keys.as_slice())
 }
 
 impl Index {
@@ -39,18 +39,14 @@ impl Index {
         ensures { IfOk result (λ x. facts_of x ≡ S.Source.facts s.now) }
     {
         let items = collect(heap, s)?;
-        let t0 = chained(heap, items.as_slice(), 0)?;
-        let t1 = chained(heap, items.as_slice(), 1)?;
-        let t2 = chained(heap, items.as_slice(), 2)?;
-        let t3 = chained(heap, items.as_slice(), 3)?;
-        let p = chained(heap, items.as_slice(), 4)?;
-        Ok(Index {
-            items,
-            t0,
-            t1,
-            t2,
-            t3,
-            p,
-        })
+        let facts = items.as_slice();
+        let chains = [
+            chained(heap, facts, 0)?,
+            chained(heap, facts, 1)?,
+            chained(heap, facts, 2)?,
+            chained(heap, facts, 3)?,
+            chained(heap, facts, 4)?,
+        ];
+        Ok(Index { items, chains })
     }
 }

@@ -4,46 +4,15 @@ ghost use Rattle.std.specs.List.{slice_get};
 ghost use Rattle.notation.specs.Fits.{terms_fit};
 ghost use Rattle.notation.specs.Logic.{fact_atom};
 ghost use Rattle.search.specs.Fitting.{slot_fits};
-ghost use Rattle.index.specs.Indexed.{facts_of, few_facts, chain_at, on_route};
+ghost use Rattle.index.specs.Indexed.{facts_of, few_facts, on_route};
 ghost use Rattle.index.specs.Settled.{Settled};
 
-use super::Index;
-use crate::chain::Chain;
+use super::{Index, Route};
 use crate::keys::{blend, term_at};
 use notation::terms::{Atom, Fact, Term, Terms, Value};
-use search::guide::{Guide, Route};
+use search::guide::Guide;
 use search::matching::Binding;
 use sources::Source;
-
-impl Index {
-    // How many facts there are.
-    fn count(&self) -> usize
-        ensures { result ≡ length (facts_of self.now) }
-    {
-        self.items.len()
-    }
-
-    // The fact at a place.
-    fn item(&self, k: usize) -> Fact
-        requires { k < length (facts_of self.now) }
-        ensures { slice_get (facts_of self.now) k ≡ Some (fact_atom result) }
-    {
-        self.items[k]
-    }
-
-    // The chain by the terms at a position, or by predicates.
-    fn chain(&self, at: usize) -> &Chain
-        ensures { result.now ≡ chain_at self.now at }
-    {
-        match at {
-            0 => &self.t0,
-            1 => &self.t1,
-            2 => &self.t2,
-            3 => &self.t3,
-            _ => &self.p,
-        }
-    }
-}
 
 // It stands for the list of its facts.
 impl Source for Index {
@@ -52,15 +21,11 @@ impl Source for Index {
     ghost few = { few_facts };
 
     fn len(&self) -> usize {
-        self.count()
+        self.items.len()
     }
 
     fn fact(&self, k: usize) -> Option<Fact> {
-        if k < self.count() {
-            Some(self.item(k))
-        } else {
-            None
-        }
+        self.items.get(k).copied()
     }
 }
 
@@ -71,16 +36,19 @@ fn settled(ts: &Terms<Term>, at: usize, b: &Binding) -> Option<Value>
 {
     match term_at(ts, at)? {
         Term::Constant(k) => Some(Value::Constant(k)),
-        Term::Variable(v) => b[v as usize],
+        Term::Variable(v) => b.value_of(v),
     }
 }
 
 // A route goes along the chain of the first position whose value is settled, or else along that of the predicate.
+// A `find_map` in `route` is no plainer than its loop: the position and value that it found would be matched again.
 impl Guide for Index {
+    type Route = Route;
+
     ghost on = { on_route };
 
     fn at(&self, k: usize) -> Fact {
-        self.item(k)
+        self.items[k]
     }
 
     fn route(&self, a: &Atom<Term>, b: &Binding) -> Route {
@@ -98,11 +66,11 @@ impl Guide for Index {
         }
     }
 
-    fn first(&self, c: Route) -> usize {
-        self.chain(c.at).first(c.key)
+    fn first(&self, c: Route) -> Option<usize> {
+        self.chains[c.at].first(c.key)
     }
 
-    fn after(&self, c: Route, k: usize) -> usize {
-        self.chain(c.at).after(k)
+    fn after(&self, c: Route, k: usize) -> Option<usize> {
+        self.chains[c.at].after(k)
     }
 }

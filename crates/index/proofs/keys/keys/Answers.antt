@@ -1,11 +1,13 @@
-use Rattle.std.proofs.Common.{◌∙◌}
-use Rattle.index.proofs.Keyed.{keys_all, keys_more}
+use Rattle.std.proofs.Common.{◌≡◌, IfOk, sym, subst, rules}
+use Rattle.std.proofs.lemmas.Iterator.{items_from_collect, YieldsList-from_map, YieldsList-from_slice}
+use Rattle.std.proofs.lemmas.Simd.{map-map}
+use Rattle.notation.specs.Logic.{fact_atom}
+use Rattle.index.specs.Keys.{keyed}
 use Rattle.index.proofs.keys.keys.Goals as goal
 
-pub loop-f-preserved : goal.loop-f-preserved
-loop-f-preserved c =
-    let more = keys_more c.args.at c.args.facts.now c.loop-f.f-index c.loop-f-test.true in
-    cc c.in_ok-push.ensures.items
-
 pub returns : goal.returns
-returns c = c.loop-f.invariant ∙ keys_all c.args.at c.args.facts.now c.loop-f.f-index c.loop-f-test.false
+returns c =
+    let at = c.args.at in
+    let facts = c.args.facts.now in
+    subst (λ l. IfOk c.collect.result (λ v. v.items ≡ l)) (sym (map-map (keyed at) fact_atom facts))
+    (items_from_collect _ c.collect.ensures.ran (YieldsList-from_map _ (λ f. keyed at (fact_atom f)) (YieldsList-from_slice facts (cc)) c.map.ensures.closure (λ x r q k. search rules)))

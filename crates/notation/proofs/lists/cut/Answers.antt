@@ -1,15 +1,17 @@
-use Rattle.std.proofs.Common.{arith}
-use Rattle.notation.proofs.Pieces.{passed_none, passed_more, passed_cut, passed_all}
+use Rattle.std.proofs.Common.{◌≡◌, eqb, sym, ap, ◌∙◌, rules, tests}
+use Rattle.std.specs.List.{position}
+use Rattle.std.proofs.lemmas.Iterator.{YieldsList-from_slice}
+use Rattle.std.proofs.lemmas.Iterator.Search.{position_from_yields_List}
+use Rattle.notation.specs.Lists.{both_seen}
+use Rattle.notation.proofs.Pieces.{cut_some, cut_none}
 use Rattle.notation.proofs.lists.cut.Goals as goal
 
-pub loop-i-init : goal.loop-i-init
-loop-i-init c = passed_none c.args.separator c.args.s.now
-
-pub returns-then-b-separator : goal.returns-then-b-separator
-returns-then-b-separator c = passed_cut c.args.separator c.loop-i.i _ c.args.s.now (omega arith) (omega arith) c.if-b-separator.true c.loop-i.invariant
-
-pub loop-i-preserved : goal.loop-i-preserved
-loop-i-preserved c = passed_more c.args.separator c.loop-i.i c.args.s.now (omega arith) c.if-b-separator.false c.loop-i.invariant
+pub returns-in_err-at : goal.returns-in_err-at
+returns-in_err-at c =
+    let found : c.position.result ≡ position (λ b. eqb b c.args.separator) c.args.s.now = position_from_yields_List (λ b. eqb b c.args.separator) _ _ c.position.result c.position.ensures.ran (YieldsList-from_slice c.args.s.now (cc)) (λ x b q k. search (rules, tests)) in
+    ap both_seen c.from_residual.ensures ∙ cut_none c.args.separator c.args.s.now (sym found ∙ c.in_err-at.was)
 
 pub returns : goal.returns
-returns c = passed_all c.args.separator c.loop-i.i c.args.s.now (omega arith) c.loop-i.invariant
+returns c =
+    let found : c.position.result ≡ position (λ b. eqb b c.args.separator) c.args.s.now = position_from_yields_List (λ b. eqb b c.args.separator) _ _ c.position.result c.position.ensures.ran (YieldsList-from_slice c.args.s.now (cc)) (λ x b q k. search (rules, tests)) in
+    cut_some c.args.separator c.in_ok-at.at c.args.s.now (sym found ∙ c.in_ok-at.was)

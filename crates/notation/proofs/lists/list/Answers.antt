@@ -1,6 +1,6 @@
 use Rattle.std.proofs.Common.{Ok, vec_items, sym, ap, ◌∙◌}
-use Rattle.std.proofs.lemmas.Result.{err_from_is_err_and}
 use Rattle.notation.specs.Lists.{read_list}
+use Rattle.notation.proofs.Failing.{fault_answered}
 use Rattle.notation.proofs.Pieces.{after_items, item_read, item_fault, last_read, pieces_more, pieces_end, cut_shorter}
 use Rattle.notation.proofs.lists.list.Goals as goal
 
@@ -18,12 +18,12 @@ loop-piece-smaller g c = cut_shorter c.args.separator c.loop-piece.left.now c.in
 
 pub returns-in_err-read : goal.returns-in_err-read
 returns-in_err-read g c =
-    let p = err_from_is_err_and c.from_residual.result c.from_residual.ensures.1 in
+    let p = fault_answered c.from_residual.result c.from_residual.ensures.1 in
     rw (p.1, p.2) (sym (item_fault g.T.Item.item_of c.args.separator c.loop-piece.left.now c.in-Some.piece.now _ (vec_items c.loop-piece.items) _ (pieces_more c.args.separator _ _ _ c.in-Some.ensures) c.in_err-read.ensures ∙ c.loop-piece.invariant))
 
 pub returns-in_err-read-2 : goal.returns-in_err-read-2
 returns-in_err-read-2 g c =
-    let p = err_from_is_err_and c.from_residual-in_err-read-2.result c.from_residual-in_err-read-2.ensures.1 in
+    let p = fault_answered c.from_residual-in_err-read-2.result c.from_residual-in_err-read-2.ensures.1 in
     rw (p.1, p.2) (sym (item_fault g.T.Item.item_of c.args.separator c.loop-piece.left.now c.loop-piece.left.now _ (vec_items c.loop-piece.items) _ (pieces_end c.args.separator _ c.in_default.ensures) c.in_err-read-2.ensures ∙ c.loop-piece.invariant))
 
 pub returns : goal.returns

@@ -1,4 +1,4 @@
-use Rattle.rewriting.proofs.Demand.{enters_is_unifier}
+use Rattle.rewriting.proofs.Entering.{enters_is_unifier}
 use Rattle.rewriting.proofs.Apart.{read_is_apart}
 use Rattle.rewriting.proofs.Unifiers.{right_is_unifier, unifier_is_right}
 use Rattle.rewriting.proofs.laws.right_steps_are_piece_unifiers.Goals as goal

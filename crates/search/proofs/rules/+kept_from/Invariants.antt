@@ -1,14 +1,14 @@
-use Rattle.std.proofs.Common.{◌≡◌, ◌-◌, ◌<◌, true, ◌∷◌, map, length}
+use Rattle.std.proofs.Common.{◌∷◌, map, length}
 use Rattle.notation.specs.Logic.{query_atom}
-use Rattle.search.specs.Bindings.{Settled}
 use Rattle.search.specs.Checking.{Reached}
+use Rattle.search.specs.Routes.{facts_from}
+use Rattle.search.proofs.Extending.{Left}
 use Rattle.search.proofs.rules.+kept_from.Given as goal
 
 abbrev pub decreases-kept_from : goal.decreases-kept_from
 decreases-kept_from g l = length l.body.now
 
-abbrev pub invariant-loop-k : goal.invariant-loop-k
-invariant-loop-k g l = Settled (Reached (query_atom l.a ∷ map query_atom l.rest) l.heads l.b (g.G.Source.facts l.s)) (query_atom l.a) (map query_atom l.rest) l.b (g.G.Source.facts l.s) l.k × (l.k < length (g.G.Source.facts l.s) → g.G.Guide.on l.s l.c l.k ≡ true)
-
-abbrev pub decreases-loop-k : goal.decreases-loop-k
-decreases-loop-k g l = l.n - l.k
+abbrev pub invariant-loop-f : goal.invariant-loop-f
+invariant-loop-f g l =
+    let it = l.f-iterator in
+    Left (Reached (query_atom l.a ∷ map query_atom l.rest) l.heads l.b (g.G.Source.facts l.s)) (g.G.Source.facts l.s) l.a (map query_atom l.rest) l.b (facts_from (g.G.Guide.on it.guide.now it.route) (g.G.Source.facts it.guide.now) it.next)

@@ -1,18 +1,11 @@
-use Rattle.std.proofs.Common.{◌-◌, [], vec_items, ◌∙◌, arith}
+use Rattle.std.proofs.Common.{◌<◌, length, vec_items, ap, ◌∙◌, arith}
 use lib.ListN.{length-map}
-use Rattle.book.specs.Rows.{row_atoms}
-use Rattle.book.proofs.Listed.{read_at, take_least}
+use Rattle.book.specs.Rows.{entry_of}
+use Rattle.book.proofs.Listed.{atoms_at}
 use Rattle.book.proofs.table.Table.atoms.Goals as goal
-
-pub index-row-requires : goal.index-row-requires
-index-row-requires c =
-    let v = c.args.self.now.list in
-    let n = length-map (vec_items v) row_atoms in
-    omega (arith, v.ok.0, c.requires)
 
 pub returns : goal.returns
 returns c =
-    let v = c.args.self.now.list in
-    let row = c.index-row.result.now in
-    let n = length-map (vec_items v) row_atoms in
-    take_least row.count 16 (c.min.result - 0) row.atoms (omega arith) (omega arith) ∙ read_at row_atoms (vec_items v) c.args.k row [] (omega (arith, v.ok.0, c.requires)) c.index-row.ensures
+    let rows = vec_items c.self.inside.list in
+    let inside : c.args.k < length rows = omega (arith, length-map rows entry_of, ap length c.self.view_is, c.requires) in
+    c.as_slice.ensures ∙ atoms_at rows c.args.self.now c.self.view_is c.args.k c.index.result.now inside c.index.ensures

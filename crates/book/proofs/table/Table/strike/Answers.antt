@@ -1,21 +1,20 @@
-use Rattle.std.proofs.Common.{vec_items, refl, arith}
+use Rattle.std.proofs.Common.{false, length, set, vec_items, ap, ◌∙◌, arith}
 use lib.ListN.{length-map}
+use Rattle.std.proofs.Math.Seq.{map-set_same}
 use Rattle.std.proofs.lemmas.List.{map-set}
-use Rattle.book.specs.declared.table.Row.{Row}
-use Rattle.book.specs.Rows.{row_atoms}
-use Rattle.book.proofs.Listed.{map_kept}
+use Rattle.book.specs.Rows.{Entry, entry_of, queries_in, standing_in}
+use Rattle.book.proofs.Listed.{entry_at}
 use Rattle.book.proofs.table.Table.strike.Goals as goal
-
-pub index_mut-requires : goal.index_mut-requires
-index_mut-requires c =
-    let v = c.args.self.now.list in
-    let n = length-map (vec_items v) row_atoms in
-    omega (arith, v.ok.0, c.requires)
 
 pub returns : goal.returns
 returns c =
-    let v = c.args.self.now.list in
-    record {
-      queries = map_kept row_atoms (vec_items v) c.args.k _ _ c.index_mut.ensures.value refl;
-      standing = map-set (λ (r : Row). r.standing) (vec_items v) c.args.k _;
+    let rows = vec_items c.self.inside.list in
+    let es = c.args.self.now in
+    let k = c.args.k in
+    let row = c.index_mut.result.now in
+    let new = record row { standing = false } in
+    let written = map-set entry_of rows k new ∙ ap (λ x. set x k (entry_of new)) c.self.view_is in
+    let was = entry_at rows es c.self.view_is k row (omega (arith, length-map rows entry_of, ap length c.self.view_is, c.requires)) c.index_mut.ensures.value in record {
+      queries = ap queries_in written ∙ map-set_same (λ (e : Entry). e.query) es k (entry_of new) (entry_of row) (ap (λ (e : Entry). e.query) was);
+      standing = ap standing_in written ∙ map-set (λ (e : Entry). e.stands) es k (entry_of new);
     }

@@ -4,7 +4,7 @@ use Rattle.notation.specs.declared.terms.Term.TheVariants.{Variable}
 use Rattle.index.proofs.Fitted.{fits_at}
 use Rattle.index.proofs.index.guide.settled.Goals as goal
 
-pub bounds-b-v : goal.bounds-b-v
-bounds-b-v c =
+pub value_of-requires : goal.value_of-requires
+value_of-requires c =
     let v = c.in-Variable.v in
     ltb-true v 32 (fits_at c.args.ts.now c.args.at (Variable v) c.requires (sym c.in_ok-k.ensures ∙ ap Some c.in-Variable.is))

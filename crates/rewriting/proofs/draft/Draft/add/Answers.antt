@@ -1,41 +1,37 @@
-use Rattle.std.proofs.Common.{◌≡◌, true, false, [], ◌∷◌, ◌++◌, length, refl, ap, ◌∙◌, arith}
-use Rattle.std.proofs.lemmas.List.{length-take-le, take_more_set}
+use Rattle.std.proofs.Common.{◌≡◌, true, false, [], ◌∷◌, ◌++◌, Option, None, is_some, sym, refl, ap, ◌∙◌, subst, rules}
 use Rattle.notation.specs.declared.terms.Atom.{Atom}
 use Rattle.notation.specs.declared.terms.Term.{Term}
-use Rattle.rewriting.specs.Drafts.{draft_atoms}
-use Rattle.rewriting.proofs.OneMore.{too_many_names, found_in, had_already, has_it_now, too_many_atoms}
+use Rattle.queries.specs.Checks.{among}
+use Rattle.queries.proofs.Same.{contains_among}
+use Rattle.rewriting.specs.declared.draft.Draft.{Draft}
+use Rattle.rewriting.specs.Drafts.{draft_atoms, Added}
+use Rattle.rewriting.specs.Pieces.{atom_of}
+use Rattle.rewriting.proofs.OneMore.{too_many_names, had_already, pushed}
 use Rattle.rewriting.proofs.draft.Draft.add.Goals as goal
 
-pub returns-in_default : goal.returns-in_default
-returns-in_default c f ls known has =
-    too_many_names c.args.table.now f ls c.args.self.now known has c.args.owner c.args.a c.requires.fit c.requires.owned c.in_default.ensures.told
+pub returns-in_err-terms : goal.returns-in_err-terms
+returns-in_err-terms c f ls known has =
+    let none : c.from_residual.result ≡ None = search rules in
+    subst (λ (r : Option (Unit {0})). Added (is_some r) f (ls ++ atom_of c.args.a ∷ []) (record { atoms = c.args.self.now.atoms; variables = c.terms_in.new.self })) (sym none)
+    (too_many_names c.args.classes.now.names f ls c.args.self.now known has c.args.a.owner c.args.a.atom c.args.a.fit c.args.a.owned c.in_err-terms.ensures)
 
-pub returns-then-has_atom : goal.returns-then-has_atom
-returns-then-has_atom c f ls known has =
-    let b : Atom Term = record { predicate = c.args.a.predicate; terms = c.in-Some.ts } in
+pub returns-then-contains : goal.returns-then-contains
+returns-then-contains c f ls known has =
+    let b : Atom Term = record { predicate = c.args.a.atom.predicate; terms = c.in_ok-terms.terms } in
     let d = c.args.self.now in
-    let e = c.terms_in.new.self in
-    let told = c.in-Some.ensures in
-    had_already c.args.table.now f ls d known has c.args.owner c.args.a c.requires.fit c.requires.owned
-    b e refl told.told.0 told.told.1 (found_in b d e true told.kept c.if-has_atom.ensures) told.kept
-
-pub returns-then-self-eq16 : goal.returns-then-self-eq16
-returns-then-self-eq16 c f ls known has =
-    let b : Atom Term = record { predicate = c.args.a.predicate; terms = c.in-Some.ts } in
-    let d = c.args.self.now in
-    let e = c.terms_in.new.self in
-    let told = c.in-Some.ensures in
-    let long = ap length told.kept in
-    let full : length (draft_atoms e) ≡ e.count = length-take-le e.count e.atoms (omega arith) in
-    too_many_atoms c.args.table.now f ls d known has c.args.owner c.args.a c.requires.fit c.requires.owned
-    b e refl told.told.0 told.told.1 (found_in b d e false told.kept c.if-has_atom.ensures) (omega arith)
+    let e : Draft = record { atoms = d.atoms; variables = c.terms_in.new.self } in
+    let told = c.in_ok-terms.ensures in
+    let found : among b (draft_atoms d) ≡ true =
+    ap (among b) (sym c.as_slice.ensures) ∙ sym (contains_among b c.as_slice.result.now) ∙ sym c.contains.ensures.value ∙ c.if-contains.true in
+    had_already c.args.classes.now.names f ls d known has c.args.a.owner c.args.a.atom c.args.a.fit c.args.a.owned
+    b e refl told.0 told.1 found refl
 
 pub returns : goal.returns
 returns c f ls known has =
-    let b : Atom Term = record { predicate = c.args.a.predicate; terms = c.in-Some.ts } in
+    let b : Atom Term = record { predicate = c.args.a.atom.predicate; terms = c.in_ok-terms.terms } in
     let d = c.args.self.now in
-    let e = c.terms_in.new.self in
-    let told = c.in-Some.ensures in
-    has_it_now c.args.table.now f ls d known has c.args.owner c.args.a c.requires.fit c.requires.owned
-    b _ refl told.told.0 told.told.1 (found_in b d e false told.kept c.if-has_atom.ensures)
-    (take_more_set e.atoms e.count b (omega arith) ∙ ap (λ l. l ++ b ∷ []) told.kept)
+    let told = c.in_ok-terms.ensures in
+    let fresh : among b (draft_atoms d) ≡ false =
+    ap (among b) (sym c.as_slice.ensures) ∙ sym (contains_among b c.as_slice.result.now) ∙ sym c.contains.ensures.value ∙ c.if-contains.false in
+    pushed c.args.classes.now.names f ls d known has c.args.a.owner c.args.a.atom c.args.a.fit c.args.a.owned
+    b (record { atoms = d.atoms; variables = c.terms_in.new.self }) _ refl told.0 told.1 refl fresh refl c.push.result c.push.ensures.room c.push.ensures.pushed

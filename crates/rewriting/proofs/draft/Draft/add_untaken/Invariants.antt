@@ -1,9 +1,0 @@
-use Rattle.std.proofs.Common.{true, map, take}
-use Rattle.notation.specs.Logic.{rename}
-use Rattle.rewriting.specs.Drafts.{Adds}
-use Rattle.rewriting.specs.Steps.{off_numbers}
-use Rattle.rewriting.specs.Written.{ref_of, logic_atoms}
-use Rattle.rewriting.proofs.draft.Draft.add_untaken.Given as goal
-
-abbrev pub invariant-loop-j : goal.invariant-loop-j
-invariant-loop-j l = Adds true l.table (map (rename (ref_of l.owner)) (off_numbers l.taken 0 (logic_atoms (take l.j l.atoms)))) l.initial.self l.self
