@@ -1,5 +1,5 @@
 -- The rows of a table, one by one.
-use Rattle.std.proofs.Common.{◌≡◌, ℕ, zero, suc, ◌<◌, true, false, List, [], ◌∷◌, map, length, get_or, replicate, take, sym, refl, ap, ◌∙◌, subst, arith, length-take, get_or-take}
+use Rattle.std.proofs.Common.{◌≡◌, ℕ, zero, suc, ◌<◌, true, false, List, [], ◌∷◌, ◌++◌, map, length, get_or, replicate, take, sym, refl, ap, ◌∙◌, subst, arith, length-take, get_or-take}
 use lib.ListN.{length-map}
 use Rattle.std.proofs.lemmas.List.{get_or-map}
 use Rattle.std.proofs.lemmas.Bool.{and_from, and_parts}
@@ -11,6 +11,7 @@ use Rattle.queries.specs.declared.row.Row.{Row}
 use Rattle.queries.specs.Checks.{valid}
 use Rattle.queries.specs.Queries.{atoms_of}
 use Rattle.queries.specs.Rows.{row_atoms}
+use Rattle.rewriting.specs.Written.{all_valid as all-rows-valid}
 use Rattle.search.specs.Answers.{HoldsAt}
 use Rattle.search.specs.Holding.{Holds}
 use Rattle.book.specs.Rows.{Entry, entry_of, entered, queries_in, standing_in, all_valid}
@@ -27,6 +28,23 @@ valid_at (q ∷ qs) (suc k) l h = valid_at qs k (omega arith) (and_parts (valid 
 pub all_queries : (qs : List Query) → all_valid (queries_in (map (λ q. entered (atoms_of q)) qs)) ≡ true
 all_queries [] = refl
 all_queries (q ∷ qs) = and_from _ _ q.proper (all_queries qs)
+
+-- rows whose queries are valid are valid
+rows_each : (rows : List Row) → all_valid (queries_in (map entry_of rows)) ≡ true → all-rows-valid rows ≡ true
+rows_each [] h = refl
+rows_each (w ∷ rows) h =
+    let p = and_parts (valid (row_atoms w)) (all_valid (queries_in (map entry_of rows))) h in
+    and_from (valid (row_atoms w)) (all-rows-valid rows) p.0 (rows_each rows p.1)
+
+pub rows_valid : (rows : List Row) (es : List Entry) → map entry_of rows ≡ es → all_valid (queries_in es) ≡ true → all-rows-valid rows ≡ true
+rows_valid rows es are h = rows_each rows (ap (λ x. all_valid (queries_in x)) are ∙ h)
+
+-- one valid query more
+pub valid_push : (es : List Entry) (q : List (Atom Term)) → all_valid (queries_in es) ≡ true → valid q ≡ true → all_valid (queries_in (es ++ entered q ∷ [])) ≡ true
+valid_push [] q h k = and_from (valid q) true k refl
+valid_push (e ∷ es) q h k =
+    let r = and_parts (valid e.query) (all_valid (queries_in es)) h in
+    and_from (valid e.query) (all_valid (queries_in (es ++ entered q ∷ []))) r.0 (valid_push es q r.1 k)
 
 -- where these queries were entered, they are the queries of the table, and all stand
 pub entered_queries : (qs : List Query) → queries_in (map (λ q. entered (atoms_of q)) qs) ≡ map atoms_of qs

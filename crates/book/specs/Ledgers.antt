@@ -1,10 +1,11 @@
 -- The book of a ledger value.
-use Rattle.std.specs.Prelude.{true, cond, List, map, length, replicate, Ok, Err, vec_items, Result, nat_le}
+use Rattle.std.specs.Prelude.{ℕ, true, cond, List, map, length, replicate, Ok, Err, vec_items, Result, nat_le}
 use Rattle.notation.specs.declared.faults.FolderFault.{FolderFault}
 use Rattle.notation.specs.declared.faults.FolderFault.TheVariants.{InLine, EndsTooSoon}
 use Rattle.notation.specs.declared.faults.LineFault.TheVariants.{TooMany}
 use Rattle.notation.specs.declared.terms.Atom.{Atom}
 use Rattle.notation.specs.declared.terms.Term.{Term}
+use Rattle.notation.specs.Reading.{carry}
 use Rattle.queries.specs.Rules.{rule_of}
 use Rattle.book.specs.declared.ledger.Ledger.{Ledger}
 use Rattle.book.specs.Rows.{queries_in, standing_in}
@@ -18,7 +19,11 @@ book_of l = record { rules = map rule_of (vec_items l.rules); opened = l.opened;
 abbrev pub new_book : List (List (Atom Term) × List (List (Atom Term))) → List (List (Atom Term)) → Book
 new_book rs qs = record { rules = rs; opened = length qs; queries = qs; standing = replicate (length qs) true }
 
--- the book that rules and queries open, or the fault: at most 32 rules, and 1 to 64 queries
+-- at most 32 rules, and 1 to 64 queries; or the fault
+abbrev pub check_counts : ℕ → ℕ → Result (Unit {0}) FolderFault
+check_counts rules queries =
+    cond (nat_le rules 32) (cond (nat_le 1 queries) (cond (nat_le queries 64) (Ok tt) (Err (InLine TooMany))) (Err EndsTooSoon)) (Err (InLine TooMany))
+
+-- the book that rules and queries open, or the fault
 abbrev pub open_book : List (List (Atom Term) × List (List (Atom Term))) → List (List (Atom Term)) → Result Book FolderFault
-open_book rs qs =
-    cond (nat_le (length rs) 32) (cond (nat_le 1 (length qs)) (cond (nat_le (length qs) 64) (Ok (new_book rs qs)) (Err (InLine TooMany))) (Err EndsTooSoon)) (Err (InLine TooMany))
+open_book rs qs = carry (λ e. e) (check_counts (length rs) (length qs)) (λ _. Ok (new_book rs qs))

@@ -1,11 +1,16 @@
 // The ledger: opening it, striking its queries, and asking it.
+mod lists;
+pub mod run;
+mod steps;
+
 ghost use Rattle.std.specs.Prelude.{◌≡◌, ◌≤◌, true, length, vec_len};
 ghost use Rattle.book.specs.Rows.{queries_in, all_valid};
 
+use crate::counts::check_counts;
 use crate::refusal::Refusal;
 use crate::table::Table;
 use notation::failures::Failure;
-use notation::faults::{FolderFault, LineFault};
+use notation::faults::FolderFault;
 use notation::terms::{Atom, Term};
 use queries::query::Query;
 use queries::rule::Rule;
@@ -14,7 +19,7 @@ use search::question::holds;
 use search::rules::lowest_broken;
 use sources::Source;
 use sources::query::QuerySource;
-use std::alloc::Global;
+use std::alloc::{AllocError, Global};
 
 // Up to 32 rules, and up to 64 queries, of which the first `opened` are the opening union.
 // It has no model, which would hide from callers what the ghost fields say.
@@ -31,13 +36,28 @@ pub struct Ledger {
 }
 
 impl Ledger {
-    ghost use Rattle.std.specs.Prelude.{◌<◌, false, [], map, slice_index_or};
+    ghost use Rattle.std.specs.Prelude.{◌<◌, false, [], map, IfOk, slice_index_or};
     ghost use Rattle.notation.specs.Failures.{UnlessMemory};
     ghost use Rattle.queries.specs.Queries.{atoms_of};
     ghost use Rattle.queries.specs.Rules.{rule_of};
-    ghost use Rattle.book.specs.Ledgers.{book_of, open_book};
+    ghost use Rattle.book.specs.Ledgers.{book_of, new_book, open_book};
     ghost use Rattle.book.specs.Questions.{LowestStanding, LowestOpening, LowestBrokenRule};
     ghost use Rattle.book.specs.Strikes.{Strikes};
+
+    // The ledger of these rules and these queries, which all stand.
+    fn of_parts(heap: Global, rules: Vec<Rule>, queries: &[Query]) -> Result<Ledger, AllocError>
+        requires some { 1 ≤ length queries.now }
+        requires few { length queries.now ≤ 64 }
+        requires ruled { vec_len rules ≤ 32 }
+        ensures { IfOk result (λ l. book_of l ≡ new_book (map rule_of rules.items) (map atoms_of queries.now)) }
+    {
+        let table = Table::of(heap, queries)?;
+        Ok(Ledger {
+            table,
+            rules,
+            opened: queries.len(),
+        })
+    }
 
     // The ledger that these rules and these queries open: at most 32 rules, and 1 to 64 queries.
     pub fn open(
@@ -47,23 +67,10 @@ impl Ledger {
     ) -> Result<Ledger, Failure<FolderFault>>
         ensures { UnlessMemory book_of result (open_book (map rule_of rules.now) (map atoms_of queries.now)) }
     {
-        if rules.len() > 32 {
-            return Err(Failure::Fault(FolderFault::InLine(LineFault::TooMany)));
-        }
-        if queries.is_empty() {
-            return Err(Failure::Fault(FolderFault::EndsTooSoon));
-        }
-        if queries.len() > 64 {
-            return Err(Failure::Fault(FolderFault::InLine(LineFault::TooMany)));
-        }
+        check_counts(rules.len(), queries.len())?;
         let mut held = Vec::new(heap);
         held.extend_from_slice(rules)?;
-        let table = Table::of(heap, queries)?;
-        Ok(Ledger {
-            table,
-            rules: held,
-            opened: queries.len(),
-        })
+        Ok(Ledger::of_parts(heap, held, queries)?)
     }
 
     // How many queries were entered.

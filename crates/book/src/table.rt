@@ -1,13 +1,15 @@
 // The table of entered queries: plain rows, in the order of their numbers.
-ghost use Rattle.std.specs.Prelude.{List, map, vec_items};
+ghost use Rattle.std.specs.Prelude.{◌≤◌, List, map, vec_items, vec_capacity};
 ghost use Rattle.book.specs.Rows.{Entry, entry_of};
 
+use crate::counts::MOST_QUERIES;
 use notation::terms::{Atom, Term};
 use queries::query::Query;
 use queries::row::Row;
 use std::alloc::{AllocError, Global};
 use std::marker::Model;
 
+// It has room for all that may be entered, so that to enter one needs no memory.
 #[derive(Drop)]
 pub struct Table {
     list: Vec<Row>,
@@ -18,39 +20,43 @@ impl Model for Table {
     ghost Value = { List Entry };
 
     ghost view = { λ t. map entry_of (vec_items t.list) };
+
+    ghost invariant = { λ t. 64 ≤ vec_capacity t.list };
 }
 
 impl Table {
-    ghost use Rattle.std.specs.Prelude.{◌≡◌, ◌<◌, true, false, [], ◌∷◌, ◌++◌, length, OnOk, IfOk, slice_index_or, slice_set};
+    ghost use Rattle.std.specs.Prelude.{◌≡◌, ◌<◌, true, false, [], ◌∷◌, ◌++◌, length, IfOk, slice_index_or, slice_set};
     ghost use Rattle.queries.specs.Queries.{atoms_of};
     ghost use Rattle.book.specs.Rows.{entered, queries_in, standing_in};
 
-    fn new(heap: Global) -> Table
-        ensures { result ≡ [] }
+    // A table with no query.
+    fn new(heap: Global) -> Result<Table, AllocError>
+        ensures { IfOk result (λ t. t ≡ []) }
     {
-        Table {
-            list: Vec::new(heap),
-        }
+        Ok(Table {
+            list: Vec::with_capacity(heap, MOST_QUERIES)?,
+        })
     }
 
     // Enters a query, which then stands.
-    fn push(&mut self, q: &Query) -> Result<(), AllocError>
-        ensures { OnOk result (self.new ≡ self.old ++ entered (atoms_of q.now) ∷ []) }
+    pub(crate) fn push(&mut self, q: &Query)
+        requires { length self.old < 64 }
+        ensures { self.new ≡ self.old ++ entered (atoms_of q.now) ∷ [] }
     {
-        self.list.push(Row {
+        self.list.push_reserved(Row {
             atoms: q.array(),
             standing: true,
-        })?;
-        Ok(())
+        });
     }
 
     // The table of these queries, which all stand.
     pub(crate) fn of(heap: Global, queries: &[Query]) -> Result<Table, AllocError>
+        requires { length queries.now ≤ 64 }
         ensures { IfOk result (λ t. t ≡ map (λ q. entered (atoms_of q)) queries.now) }
     {
-        let mut table = Table::new(heap);
+        let mut table = Table::new(heap)?;
         for q in queries {
-            table.push(q)?;
+            table.push(q);
         }
         Ok(table)
     }
