@@ -10,14 +10,15 @@ use book::lists::RuleAtoms;
 use notation::failures::Failure;
 use notation::faults::{FolderFault, LineFault};
 use notation::lists::list;
-use notation::terms::{Atom, End, Term, Tie};
+use notation::terms::{Atom, Term, Tie};
+use notation::ties::{places, whole_tie};
 use queries::body::Body;
 use queries::query::Query;
 use queries::rule::Rule;
 use rewriting::steps::{Part, Step};
 use search::guide::Plain;
 use sources::text::TextSource;
-use std::alloc::{AllocError, Global};
+use std::alloc::Global;
 use std::io;
 
 const FACTS: &[u8] = b"fact=p0(c4)\nfact=p3(c4)\nfact=p2(c4,n0)\n";
@@ -61,28 +62,21 @@ fn values(heap: Global) -> Result<(Vec<Rule>, Vec<Query>), Failure<LineFault>> {
     Ok((rules, queries))
 }
 
-fn tie(copy: u8, rule: u8) -> Tie {
-    Tie {
-        left: End::Copy(copy),
-        right: End::Rule(rule),
-    }
-}
-
 // The part that takes the first atom of a query for the first of a head.
-fn part(heap: Global, query: usize, ties: Vec<Tie>) -> Result<Part, AllocError> {
+fn part(heap: Global, query: usize, ties: Vec<Tie>) -> Result<Part, Failure<LineFault>> {
     Ok(Part {
         query,
-        taken: vec![in heap; 0; 1]?,
-        named: vec![in heap; 0; 1]?,
+        taken: places(heap, b"0")?,
+        named: places(heap, b"0")?,
         ties,
     })
 }
 
 // Query 0 for the first head, with these ties, and query 1 for the second.
-fn step(heap: Global, first: Vec<Tie>) -> Result<Call, Failure<FolderFault>> {
+fn step(heap: Global, first: Vec<Tie>) -> Result<Call, Failure<LineFault>> {
     let mut second = Vec::new(heap);
-    second.push(tie(0, 0))?;
-    second.push(tie(1, 1))?;
+    second.push(whole_tie(b"q0~r0")?)?;
+    second.push(whole_tie(b"q1~r1")?)?;
     let mut parts = Vec::new(heap);
     parts.push(part(heap, 0, first)?)?;
     parts.push(part(heap, 1, second)?)?;
@@ -90,16 +84,14 @@ fn step(heap: Global, first: Vec<Tie>) -> Result<Call, Failure<FolderFault>> {
 }
 
 // The tie of the copy's first variable and the rule's, as often as this.
-fn ties(heap: Global, many: usize) -> Result<Vec<Tie>, AllocError> {
-    vec![in heap; tie(0, 0); many]
+fn ties(heap: Global, many: usize) -> Result<Vec<Tie>, Failure<LineFault>> {
+    let tie = whole_tie(b"q0~r0")?;
+    Ok(vec![in heap; tie; many]?)
 }
 
-fn calls(heap: Global) -> Result<Vec<Call>, Failure<FolderFault>> {
+fn calls(heap: Global) -> Result<Vec<Call>, Failure<LineFault>> {
     let mut other = ties(heap, 1)?;
-    other.push(Tie {
-        left: End::Rule(0),
-        right: End::Constant(7),
-    })?;
+    other.push(whole_tie(b"r0~c7")?)?;
     let mut calls = Vec::new(heap);
     calls.push(Call::Strike(2, 1))?;
     calls.push(Call::Strike(1, 2))?;

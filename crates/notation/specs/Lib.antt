@@ -8,3 +8,4 @@ pub mod Logic
 pub mod Numbers
 pub mod Printing
 pub mod Reading
+pub mod Ties

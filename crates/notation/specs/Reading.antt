@@ -5,6 +5,8 @@ use Rattle.notation.specs.declared.faults.TermFault.{TermFault}
 use Rattle.notation.specs.declared.faults.TermFault.TheVariants.{NoTerm, BadNumber}
 use Rattle.notation.specs.declared.faults.AtomFault.{AtomFault}
 use Rattle.notation.specs.declared.faults.AtomFault.TheVariants.{InTerm, Broken}
+use Rattle.notation.specs.declared.terms.End.{End}
+use Rattle.notation.specs.declared.terms.End.TheVariants as end
 use Rattle.notation.specs.declared.terms.Term.{Term}
 use Rattle.notation.specs.declared.terms.Term.TheVariants as term
 use Rattle.notation.specs.declared.terms.Value.{Value}
@@ -68,6 +70,14 @@ abbrev pub value_of : ℕ → Result Value TermFault
 value_of code =
     cond (nat_lt code 1000) (Ok (value.Constant code))
     (cond (nat_lt code 2000) (Ok (value.Unknown (code - 1000))) (Err (code_fault code)))
+
+-- the end of a tie that a code stands for
+abbrev pub end_of : ℕ → Result End TermFault
+end_of code =
+    cond (nat_lt code 1000) (Ok (end.Constant code))
+    (cond (nat_lt code 2032) (Err NoTerm)
+    (cond (nat_lt code 2064) (Ok (end.Rule (code - 2032)))
+    (cond (nat_lt code 2096) (Ok (end.Copy (code - 2064))) (Err (code_fault code)))))
 
 -- the term at the front, by what its code stands for, and the text after it
 abbrev pub read_word : {X : Type 0} → (ℕ → Result X TermFault) → List ℕ → Result (X × List ℕ) TermFault

@@ -11,4 +11,5 @@ pub mod lists;
 pub mod numbers;
 pub mod printing;
 pub mod terms;
+pub mod ties;
 pub mod words;

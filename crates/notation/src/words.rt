@@ -2,15 +2,15 @@
 ghost use Rattle.std.specs.Prelude.{◌≡◌, ℕ, ◌<◌, Result};
 ghost use Rattle.notation.specs.declared.faults.TermFault.{TermFault};
 ghost use Rattle.notation.specs.Numbers.{read_number};
-ghost use Rattle.notation.specs.Reading.{seen, coded, read_term, code_fault, term_of, value_of, read_word, read_after, item_seen, read_item, read_terms, text_seen, read_byte, read_predicate, read_atom};
+ghost use Rattle.notation.specs.Reading.{seen, coded, read_term, code_fault, term_of, value_of, end_of, read_word, read_after, item_seen, read_item, read_terms, text_seen, read_byte, read_predicate, read_atom};
 
 use crate::faults::{AtomFault, TermFault};
 use crate::numbers::number;
-use crate::terms::{Atom, Term, Terms, Value};
+use crate::terms::{Atom, End, Term, Terms, Value};
 
-// no term begins here
+// Codes above those of all terms, as the leaf reader's answer has them (a rule of the project): no term begins here
 const NO_TERM: u16 = 4000;
-// the letter of a term is not followed by a number in range
+// and the letter of a term is not followed by a number in range.
 const BAD_NUMBER: u16 = 4001;
 
 // The number after a term's letter, as a code from `base` on.
@@ -49,7 +49,7 @@ fn fault_of(code: u16) -> TermFault
     }
 }
 
-// A kind of term, by the codes that stand for it.
+// A kind of term, by the codes that stand for it: the caller of the leaf reader makes the Result.
 pub trait Word: Copy {
     ghost word_of: { ℕ → Result Self TermFault };
 
@@ -81,8 +81,21 @@ impl Word for Value {
     }
 }
 
+impl Word for End {
+    ghost word_of = { end_of };
+
+    fn of_code(code: u16) -> Result<End, TermFault> {
+        match code {
+            0..=999 => Ok(End::Constant(code)),
+            2032..=2063 => Ok(End::Rule((code - 2032) as u8)),
+            2064..=2095 => Ok(End::Copy((code - 2064) as u8)),
+            _ => Err(fault_of(code)),
+        }
+    }
+}
+
 // The term at the front of `s`, and the text after it.
-fn term<T: Word>(s: &[u8]) -> Result<(T, &[u8]), TermFault>
+pub(crate) fn term<T: Word>(s: &[u8]) -> Result<(T, &[u8]), TermFault>
     ensures { seen result ≡ read_word T.word_of s.now }
 {
     let (code, rest) = read_term(s);

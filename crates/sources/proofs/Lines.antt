@@ -25,9 +25,6 @@ pub record Reached (s : List ℕ) (fs : List (Atom Value)) (left : List ℕ) : T
   pub facts_so_far : told (pieces 10 s) ≡ fs ++ told (pieces 10 left)
   pub lines_so_far : lines (pieces 10 s) ≡ length fs + lines (pieces 10 left)
 
-pub reached_none : (s : List ℕ) → Reached s [] s
-reached_none s = record { facts_so_far = refl; lines_so_far = omega arith }
-
 one_line : (line : List ℕ) (ps : List ℕ × List (List ℕ)) → line_count line (ps.0 ∷ ps.1) ≡ 1 + lines ps
 one_line [] ps = refl
 one_line (b ∷ line) ps = refl
