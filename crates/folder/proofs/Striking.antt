@@ -1,5 +1,5 @@
 -- One strike more.
-use Rattle.std.proofs.Common.{◌≡◌, ℕ, List, [], ◌∷◌, ◌++◌, codes, Result, sym, refl, ap, ◌∙◌, subst, append_assoc}
+use Rattle.std.proofs.Common.{◌≡◌, ℕ, List, [], ◌∷◌, ◌++◌, codes, Result, sym, refl, ap, ◌∙◌, subst, append_assoc, append-nil}
 use Rattle.book.specs.declared.refusal.Refusal.{Refusal}
 use Rattle.book.specs.Runs.{Ran}
 use Rattle.book.specs.Strikes.{Book, Strikes}
@@ -25,6 +25,9 @@ events_push b mid (x ∷ es) (p ∷ os) e o r =
   where
     regroup : (a b d e : List ℕ) → a ++ (b ++ (d ++ e)) ≡ (a ++ (b ++ d)) ++ e
     regroup a b d e = simp append_assoc
+
+pub struck_none : (b : Book) (was : List ℕ) → Struck b [] b was was
+struck_none b was = record { outcomes = []; ran = refl; printed = sym (append-nil was) }
 
 pub struck_more : (b mid last : Book) (es : List (ℕ × ℕ)) (e : ℕ × ℕ) (o : Outcome) (was so_far new : List ℕ) → Struck b es mid was so_far → Strikes mid e.0 e.1 o last → new ≡ so_far ++ (print_event e o ++ codes "\n") → Struck b (es ++ e ∷ []) last was new
 struck_more b mid last es e o was so_far new s k p = record {

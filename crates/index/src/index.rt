@@ -24,7 +24,19 @@ pub struct Index {
 // A key, in the chain by the terms at a position, or in that by predicates, which is the last.
 #[derive(Clone, Copy)]
 pub struct Route {
-    at: usize,
-    key: u16,
+    pub at: usize,
+    pub key: u16,
     ghost within: { at < 5 },
+}
+
+impl Route {
+    ghost use Rattle.std.specs.Prelude.{min};
+
+    // The key in the chain by the terms at this position, or in that by predicates from position 4 on.
+    pub fn new(at: usize, key: u16) -> Route
+        ensures at { result.at ≡ min at 4 }
+        ensures key { result.key ≡ key }
+    {
+        Route { at: at.min(4), key }
+    }
 }

@@ -1,4 +1,5 @@
 pub mod Back
+pub mod Fronts
 pub mod Failing
 pub mod Lacks
 pub mod Pieces

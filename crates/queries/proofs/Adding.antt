@@ -1,8 +1,8 @@
 -- One head more.
-use Rattle.std.proofs.Common.{◌≡◌, ℕ, ◌+◌, ◌<◌, ◌≢◌, Bool, true, false, cond, leb, List, [], ◌∷◌, ◌++◌, map, length, take, set, Some, None, Ok, Err, Option, Result, option_and_then, unwrap_or, sym, refl, ap, ◌∙◌, arith}
+use Rattle.std.proofs.Common.{◌≡◌, ℕ, ◌+◌, ◌<◌, ◌≤◌, ◌≢◌, Bool, true, false, cond, leb, List, [], ◌∷◌, ◌++◌, map, length, take, set, Some, None, Ok, Err, Option, Result, option_and_then, unwrap_or, sym, refl, ap, ◌∙◌, arith}
 use lib.ListN.{length-map}
 use Rattle.std.proofs.lemmas.List.{take_more_set, map_push, length-take-le}
-use Rattle.std.proofs.lemmas.Bool.{and_from, and_parts, le-leb, lt-leb, cond-true, cond-false}
+use Rattle.std.proofs.lemmas.Bool.{and_from, and_parts, leb-true, leb-false, le-leb, lt-leb, cond-true, cond-false}
 use Rattle.notation.specs.declared.faults.AtomFault.TheVariants.{InTerm, Broken, Repeated}
 use Rattle.notation.specs.declared.faults.TermFault.TheVariants.{Misnumbered}
 use Rattle.notation.specs.declared.faults.LineFault.{LineFault}
@@ -17,7 +17,7 @@ use Rattle.queries.specs.Checks.{all_terms, each, ranged, listed, numbered, dist
 use Rattle.queries.specs.Heads.{head_atoms, body_atoms}
 use Rattle.queries.specs.RuleChecks.{heads_fine, heads_numbered, body_next, rule_next, add_head}
 use Rattle.queries.specs.Rules.{heads_of}
-use Rattle.queries.proofs.Valid.{some_from_next, at_scope}
+use Rattle.queries.proofs.Valid.{some_from_next, few_from_fine, at_scope}
 
 pub heads_more : (heads : List Head) (n : ℕ) (h : Head) (as' : List (Atom Term)) → n < length heads → head_atoms h ≡ as' → map head_atoms (take (n + 1) (set heads n h)) ≡ map head_atoms (take n heads) ++ as' ∷ []
 heads_more heads n h as' l e = ap (map head_atoms) (take_more_set heads n h l) ∙ map_push head_atoms (take n heads) h ∙ ap (λ x. map head_atoms (take n heads) ++ x ∷ []) e
@@ -83,3 +83,20 @@ module _ (r : Rule) (arity : List ℕ) (as' : List (Atom Term)) (four : length r
   -- and there is one for the others
   pub more_is : (s : Scope) (o : Result ℕ LineFault) → r.count ≢ 4 → s ≡ record { known = r.body.next; start = r.next; next = r.next } → check_atoms 4 s.known s.start s.next arity as' ≡ o → add_head arity (body_atoms r.body) (heads_of r) as' ≡ then_heads o
   more_is s o some is e = add_is 4 o (cond-false _ 0 4 (lt-leb 4 r.count (omega (arith, some, r.within)))) (at_scope 4 arity as' is e)
+
+-- where the atoms after n of at most `most` items are fine there is room for them
+pub room : (most atoms n : ℕ) (as' : List (Atom Term)) → fine (cond (leb most n) 0 atoms) as' ≡ true → n < most
+room most atoms n as' h = by_test (leb most n) refl h
+  where
+    by_test : (t : Bool) → leb most n ≡ t → fine (cond t 0 atoms) as' ≡ true → n < most
+    by_test true e k = let some = leb-true 1 (length as') (and_parts _ _ (and_parts _ _ k).0).0 in let few = few_from_fine 0 as' k in absurd (omega arith)
+    by_test false e k = omega (arith, leb-false most n e)
+
+four_atoms : (n : ℕ) → n < 4 → ◌≡◌ {A = ℕ} (cond (leb 4 n) 0 4) 4
+four_atoms n h = cond-false _ 0 4 (lt-leb 4 n h)
+
+pub few_fine : (n : ℕ) (as' : List (Atom Term)) → fine (cond (leb 4 n) 0 4) as' ≡ true → fine 4 as' ≡ true
+few_fine n as' h = ap (λ m. fine m as') (sym (four_atoms n (room 4 4 n as' h))) ∙ h
+
+pub few_head : (n : ℕ) (as' : List (Atom Term)) → fine (cond (leb 4 n) 0 4) as' ≡ true → length as' ≤ 4
+few_head n as' h = few_from_fine 4 as' (few_fine n as' h)

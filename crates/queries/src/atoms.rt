@@ -19,7 +19,7 @@ pub struct Atoms<const N: usize> {
 }
 
 impl<const N: usize> Atoms<N> {
-    ghost use Rattle.std.specs.Prelude.{◌≡◌, ◌<◌, ◌↔◌, [], ◌∷◌, ◌++◌, length, IsSome, OnSome, IfNone};
+    ghost use Rattle.std.specs.Prelude.{◌≡◌, ◌<◌, ◌↔◌, [], ◌∷◌, ◌++◌, length, take, IsSome, OnSome, IfNone};
     ghost use Rattle.queries.specs.Atoms.{held};
 
     // No atoms.
@@ -42,6 +42,16 @@ impl<const N: usize> Atoms<N> {
         Atoms {
             atoms: front,
             count: atoms.len(),
+        }
+    }
+
+    // The first `count` of these atoms, of which there may be fewer.
+    pub fn front(atoms: [Atom<Term>; N], count: usize) -> Atoms<N>
+        ensures { held result ≡ take count atoms.entry }
+    {
+        Atoms {
+            atoms,
+            count: count.min(N),
         }
     }
 

@@ -4,11 +4,14 @@ use Rattle.std.specs.List.{position, position_or_len}
 use Rattle.std.proofs.lemmas.List.Recursion.{is_position_or_len}
 use Rattle.std.proofs.lemmas.List.{map-append, length-map, length_push}
 use Rattle.std.proofs.lemmas.Bool.{cond-true, cond-false, lt-ltb, le-ltb, eq-eqb, ne_eqb, cases_lt, ltb-false}
+use Rattle.notation.specs.declared.terms.Term.{Term as WrittenTerm}
+use Rattle.notation.specs.declared.terms.Terms.{Terms}
+use Rattle.rewriting.specs.declared.steps.Owner.{Owner}
 use Rattle.notation.specs.declared.terms.Term.TheVariants.{Constant, Variable}
 use Rattle.notation.specs.Logic.{var, In, here, there, as_term}
 use Rattle.rewriting.specs.Classes.{same_ref}
 use Rattle.rewriting.specs.Computing.{any}
-use Rattle.rewriting.specs.Drafts.{first_place, noted, noted_all, shown, shown_all}
+use Rattle.rewriting.specs.Drafts.{first_place, entries_of, noted, noted_all, shown, shown_all, ShownTerms}
 use Rattle.rewriting.specs.Judging.{order_from, place_of, numbered}
 use Rattle.rewriting.specs.Steps.{Ref, fixed, own, copy, once}
 use Rattle.rewriting.specs.Tables.{place, Within}
@@ -31,6 +34,20 @@ shown_constant ns e h = cond-true _ _ _ (lt-ltb e 1000 h)
 
 pub shown_variable : (ns : List ℕ) (e : ℕ) → 1000 ≤ e → shown ns e ≡ Variable (first_place e ns)
 shown_variable ns e h = cond-false _ _ _ (le-ltb e 1000 h)
+
+noted_length : (ns : List ℕ) (e : ℕ) → length ns ≤ length (noted ns e)
+noted_length ns e = by_test (λ v. length ns ≤ length v) (ltb e 1000) ns _ (λ t. omega arith)
+    (λ t. by_test (λ v. length ns ≤ length v) (ltb (first_place e ns) (length ns)) ns (ns ++ e ∷ []) (λ u. omega arith) (λ u. let p = length_push ns e in omega arith))
+
+-- too many stay too many
+pub over_stays : (ns es : List ℕ) → 32 < length ns → 32 < length (noted_all ns es)
+over_stays ns [] h = h
+over_stays ns (e ∷ es) h = let p = noted_length ns e in over_stays (noted ns e) es (omega arith)
+
+-- there are too many where a term is the 33rd variable, whatever comes after it
+pub broken_off : (r : Option (Terms WrittenTerm)) (t : List ℕ) (o : Owner) (ts us : Terms WrittenTerm) (ns ms : List ℕ) → r ≡ None → ts ≡ us → 32 < length (noted_all ns (entries_of t o us)) → ShownTerms r (entries_of t o ts) ns ms
+broken_off r t o ts us ns ms none is h =
+    subst (λ (v : Option (Terms WrittenTerm)). ShownTerms v (entries_of t o ts) ns ms) (sym none) (subst (λ v. 32 < length (noted_all ns (entries_of t o v))) (sym is) h)
 
 -- where e is looked for among the entries
 first_is : (e : ℕ) (ns : List ℕ) → position_or_len (λ n. eqb n e) ns ≡ first_place e ns

@@ -22,6 +22,9 @@ use Rattle.rewriting.proofs.OneMore.{drafted_small}
 -- ---------------------------------------------------------------- one addition after the other
 
 module _ (t : List ℕ) where
+  pub adds_none : (d : Draft) → Adds true t [] d d
+  adds_none d f ls known has = subst (λ v. Drafted f v d) (sym (append-nil ls)) has
+
   pub adds_then : (r : Bool) (xs ys : List (Atom Ref)) (d e g : Draft) → Adds true t xs d e → Adds r t ys e g → Adds r t (xs ++ ys) d g
   adds_then r xs ys d e g p q f ls known has = subst (λ v. Added r f v g) (append_assoc ls xs ys) (q f (ls ++ xs) known (p f ls known has))
 

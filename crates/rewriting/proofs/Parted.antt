@@ -86,6 +86,9 @@ Leads s b rows ds ps i =
     ((k j : ℕ) → pieces s b i (drop i ds) (drop i ps) ≡ refused k j → pieces s b 0 ds ps ≡ refused k j)
     × (pieces s b i (drop i ds) (drop i ps) ≡ read (pieces_from b rows i (drop i ds) (drop i ps)) → pieces s b 0 ds ps ≡ read (pieces_from b rows 0 ds ps))
 
+pub leads_none : (s : Ledger) (b : List (Atom Term)) (rows : List Row) (ds : List (List (Atom Term))) (ps : List Part) → Leads s b rows ds ps 0
+leads_none s b rows ds ps = (λ k j e. e, λ e. e)
+
 abbrev Standing : Ledger → List Row → Type 0
 Standing s rows = (k : ℕ) → standing s k ≡ row_standing (nth k rows)
 

@@ -1,7 +1,7 @@
 -- A part against the row that it names.
-use Rattle.std.proofs.Common.{◌≡◌, ℕ, Bool, true, ◌&&◌, List, [], ◌∷◌, length, ap, ◌∙◌, ap₂}
+use Rattle.std.proofs.Common.{◌≡◌, ℕ, Bool, true, false, ◌&&◌, List, [], ◌∷◌, length, refl, ap, ◌∙◌, ap₂}
 use lib.ListN.{length-map}
-use Rattle.std.proofs.lemmas.Bool.{cond-true, false≢true}
+use Rattle.std.proofs.lemmas.Bool.{cond-true, cond-false, false≢true}
 use Rattle.notation.specs.declared.terms.Term.{Term as WrittenTerm}
 use Rattle.notation.specs.declared.terms.Atom.{Atom as WrittenAtom}
 use Rattle.notation.specs.Logic.{Term, Atom, query_atom}
@@ -15,6 +15,10 @@ use Rattle.rewriting.specs.Written.{logic_atoms, first_atoms, first_stands, row_
 pub standing_is : (ws : List Row) → first_stands ws ≡ true → row_standing ws ≡ logic_atoms (first_atoms ws) ∷ []
 standing_is [] h = absurd (false≢true h)
 standing_is (w ∷ ws) h = cond-true w.standing (logic_atoms (row_atoms w) ∷ []) [] h
+
+pub none_stands : (ws : List Row) → first_stands ws ≡ false → row_standing ws ≡ []
+none_stands [] h = refl
+none_stands (w ∷ ws) h = cond-false w.standing (logic_atoms (row_atoms w) ∷ []) [] h
 
 -- the tests of a part whose query stands
 pub read_is : (i : ℕ) (b : List (Atom Term)) (d : List (WrittenAtom WrittenTerm)) (p : Part) (ws : List Row) (rest : Read) (v w : Bool) → first_stands ws ≡ true →

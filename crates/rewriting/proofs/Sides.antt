@@ -9,6 +9,8 @@ use Rattle.notation.specs.declared.terms.Terms.TheVariants.{One}
 use Rattle.notation.specs.declared.terms.Atom.{Atom as WrittenAtom}
 use Rattle.notation.specs.Logic.{Term, Atom, rename, terms, terms_of, as_term, query_atom}
 use Rattle.rewriting.specs.declared.steps.Owner.{Owner}
+use Rattle.notation.specs.declared.terms.End.TheVariants as end_variant
+use Rattle.notation.specs.declared.terms.Tie.{Tie}
 use Rattle.rewriting.specs.Computing.{any, all}
 use Rattle.rewriting.specs.Classes.{same_ref}
 use Rattle.rewriting.specs.Judging.{has_ref}
@@ -19,6 +21,9 @@ use Rattle.rewriting.specs.Written.{ref_of, logic_atoms, side, named_side}
 -- what is read past the end
 abbrev pub no_atom : WrittenAtom WrittenTerm
 no_atom = record { predicate = 0; terms = One (term.Constant 0) }
+
+abbrev pub no_tie : Tie
+no_tie = record { left = end_variant.Constant 0; right = end_variant.Constant 0 }
 
 -- an atom that is not at one of the numbers is passed over
 pub skip : (o : Owner) (ns : List ℕ) (as' : List (WrittenAtom WrittenTerm)) (j : ℕ) (d : WrittenAtom WrittenTerm) → j < length as' → member j ns ≡ false →

@@ -12,7 +12,6 @@ ghost use Rattle.rewriting.specs.Written.{part_of, step_ref};
 use crate::places::{Placed, StepTerm, TERMS};
 use crate::steps::Part;
 use notation::terms::Tie;
-use std::array::from_fn;
 
 const CONSTANTS: usize = 1000;
 
@@ -31,22 +30,27 @@ fn replaced(name: u16, from: u16, to: u16) -> u16
 }
 
 impl Classes {
-    // Each term its own class.
+    // Each term its own class; in place too, where `from_fn` makes an array of options first.
     fn apart() -> Classes
         ensures { result.names ≡ range_with_len 0 1160 }
     {
-        Classes {
-            names: from_fn(|i| i as u16),
+        let mut names = [0; TERMS];
+        let mut place = 0;
+        for name in names.iter_mut() {
+            *name = place;
+            place += 1;
         }
+        Classes { names }
     }
 
-    // Each name `from` made `to`.
-    fn renamed(self, from: u16, to: u16) -> Classes
+    // Each name `from` made `to`, in place: `map` of an array makes others of it on the way, and is called for each tie.
+    fn renamed(mut self, from: u16, to: u16) -> Classes
         ensures { result.names ≡ map (relabelled from to) self.names }
     {
-        Classes {
-            names: self.names.map(move |name| replaced(name, from, to)),
+        for name in self.names.iter_mut() {
+            *name = replaced(*name, from, to);
         }
+        self
     }
 
     // The classes of the terms made one: a name that is a constant stays.

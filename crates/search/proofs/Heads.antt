@@ -1,6 +1,6 @@
 -- The heads of a rule, one after another.
-use Rattle.std.proofs.Common.{◌≡◌, ℕ, zero, suc, ◌+◌, ◌<◌, true, List, [], ◌∷◌, map, length, get_or, drop, sym, ap, ◌∙◌, subst, inl, inr, ⊎_elim, arith}
-use Rattle.std.proofs.lemmas.List.{drop_more}
+use Rattle.std.proofs.Common.{◌≡◌, ℕ, zero, suc, ◌+◌, ◌<◌, ◌≤◌, true, List, [], ◌∷◌, map, length, get_or, drop, sym, ap, ◌∙◌, subst, inl, inr, ⊎_elim, arith}
+use Rattle.std.proofs.lemmas.List.{drop_more, drop_all}
 use Rattle.std.proofs.lemmas.Bool.{and_parts}
 use Rattle.notation.specs.declared.terms.Atom.{Atom}
 use Rattle.notation.specs.declared.terms.Term.{Term}
@@ -24,6 +24,9 @@ module _ {X : Type 0} (P : X → Type 0) where
   -- some element, if any, stands from i on: not at i, so past it
   pub any_more : (xs : List X) (i : ℕ) (x : X) → i < length xs → x ≡ get_or xs i x → (Any P xs → Any P (drop i xs)) → (P x → ⊥) → Any P xs → Any P (drop (i + 1) xs)
   any_more xs i x l is left none e = ⊎_elim (λ p. absurd (none (subst P (sym is) p))) (λ more. more) (subst (Any P) (drop_more xs i x l) (left e))
+
+  pub any_all : (xs : List X) (i : ℕ) → length xs ≤ i → (Any P xs → Any P (drop i xs)) → Any P xs → ⊥
+  any_all xs i l left e = subst (Any P) (drop_all i xs l) (left e)
 
 -- the variables of each head fit
 head_fits : (heads : List Head) (i : ℕ) (d : Head) → i < length heads → d ≡ get_or heads i d → heads_fit (map head_atoms heads) ≡ true → variables_fit (head_atoms d) ≡ true

@@ -81,5 +81,16 @@ module _ (on : ℕ → Bool) (facts : Facts) where
       ∙ along_here on k _ (drop (k + 1) facts) now
       ∙ (let more = lead_more (length facts - (k + 1)) (k + 1) o (omega arith) to in let e = slice_get-get_or facts k f within in cc)
 
+  -- what is ahead after a place is what a route leads to from there
+  pub candidates_after : (k : ℕ) (o : Option ℕ) → k < length facts → Leads on (length facts) (k + 1) o → facts_along on (k + 1) (drop (k + 1) facts) ≡ facts_from on facts o
+  candidates_after k o within to = lead_more (length facts - (k + 1)) (k + 1) o (omega arith) to
+
+  -- a place that lies on a route, as the first of what is ahead there
+  pub candidates_here : (k : ℕ) (f : Atom Term) → slice_get facts k ≡ Some f → k < length facts → on k ≡ true → facts_from on facts (Some k) ≡ f ∷ facts_along on (k + 1) (drop (k + 1) facts)
+  candidates_here k f is within now =
+      ap (facts_along on k) (drop_more facts k f within)
+      ∙ along_here on k _ (drop (k + 1) facts) now
+      ∙ (let e = slice_get-get_or facts k f within in cc)
+
   pub candidates_at : (next : Option ℕ) (k : ℕ) (f : Atom Term) (o : Option ℕ) → next ≡ Some k → slice_get facts k ≡ Some f → k < length facts → on k ≡ true → Leads on (length facts) (k + 1) o → facts_from on facts next ≡ f ∷ facts_from on facts o
   candidates_at next k f o e is within now to = ap (facts_from on facts) e ∙ candidates_next k f o is within now to

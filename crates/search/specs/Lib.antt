@@ -3,6 +3,7 @@ pub mod Holding
 pub mod Fitting
 pub mod Bindings
 pub mod Routes
+pub mod Candidates
 pub mod Keeping
 pub mod Mapping
 pub mod Checking

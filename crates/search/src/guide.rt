@@ -36,6 +36,24 @@ pub trait Guide: Source {
         requires inside { k < length (Self.Source.facts self.now) }
         requires along { on self.now c k ≡ true }
         ensures { Leads (on self.now c) (length (Self.Source.facts self.now)) (k + 1) result };
+
+    // The first place of the route, for who knows how many places there are: they need not be counted again.
+    fn first_within(&self, c: Self::Route, end: usize) -> Option<usize>
+        requires { end ≡ length (Self.Source.facts self.now) }
+        ensures { Leads (on self.now c) (length (Self.Source.facts self.now)) 0 result }
+    {
+        self.first(c)
+    }
+
+    // The next place of the route after k, likewise.
+    fn after_within(&self, c: Self::Route, k: usize, end: usize) -> Option<usize>
+        requires inside { k < length (Self.Source.facts self.now) }
+        requires along { on self.now c k ≡ true }
+        requires whole { end ≡ length (Self.Source.facts self.now) }
+        ensures { Leads (on self.now c) (length (Self.Source.facts self.now)) (k + 1) result }
+    {
+        self.after(c, k)
+    }
 }
 
 // A source read from its first place to its last.
@@ -86,5 +104,13 @@ impl<'a, S: Source> Guide for Plain<'a, S> {
 
     fn after(&self, c: (), k: usize) -> Option<usize> {
         self.place(k + 1)
+    }
+
+    fn first_within(&self, c: (), end: usize) -> Option<usize> {
+        (0 < end).then_some(0)
+    }
+
+    fn after_within(&self, c: (), k: usize, end: usize) -> Option<usize> {
+        (k + 1 < end).then_some(k + 1)
     }
 }

@@ -1,18 +1,18 @@
 // What each variable has been given so far, and one atom against one fact under it.
-ghost use Rattle.std.specs.Prelude.{◌≡◌, true, [], ◌∷◌, ◌<◌, ℕ, List, None, Option, replicate, slice_index_or, Decides};
+ghost use Rattle.std.specs.Prelude.{◌≡◌, true, [], ◌∷◌, ◌<◌, ℕ, List, None, Option, replicate, slice_index_or, Decides, MatchBool};
 ghost use Rattle.notation.specs.Fits.{terms_fit};
 ghost use Rattle.notation.specs.Logic.{terms_of};
 ghost use Rattle.search.specs.Fitting.{slot_fits, slots_fit};
-ghost use Rattle.search.specs.Bindings.{Met, Meets, MeetsAll, Matches, Free, May};
+ghost use Rattle.search.specs.Bindings.{Met, Meets, MeetsAll, Matches, Narrowed, Clash, Free, May};
 ghost use Rattle.notation.specs.declared.terms.Value.{Value as Read};
 
 use notation::terms::{Atom, Fact, Term, Terms, Value};
 use std::marker::Model;
 
 // What each variable has been given so far.
-#[derive(Clone, Copy)]
+#[derive(Clone, Copy, PartialEq, Eq)]
 pub struct Binding {
-    given: [Option<Value>; 32],
+    pub given: [Option<Value>; 32],
 }
 
 impl Model for Binding {
@@ -137,4 +137,16 @@ impl Binding {
         }
         self.meet_all(a.terms, f.terms)
     }
+}
+
+// Makes the atom the fact in `out`, which is then `b` with what that gives the variables; `b` stays as it is.
+pub fn matched(b: &Binding, a: &Atom<Term>, f: &Fact, out: &mut Binding) -> bool
+    requires { slots_fit a.now ≡ true }
+    ensures { MatchBool result (Narrowed b.now (Matches a.now f.now) out.new) (Clash b.now (Matches a.now f.now)) }
+{
+    if !b.may_match(a, f) {
+        return false;
+    }
+    *out = *b;
+    out.matched(a, f).is_some()
 }

@@ -21,5 +21,7 @@ pub fn holds<G: Guide>(q: &Query, s: &G) -> bool
 pub fn lowest<G: Guide>(queries: &[Query], s: &G) -> Option<usize>
     ensures { LowestHeld (map atoms_of queries.now) (G.Source.facts s.now) result }
 {
-    queries.iter().position(|q| holds(q, s))
+    // The number by itself, for a must-fail edit that turns it: what a `map` makes would be refused whatever it is.
+    let k = queries.iter().position(|q| holds(q, s))?;
+    Some(k)
 }

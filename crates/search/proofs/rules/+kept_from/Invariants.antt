@@ -1,7 +1,7 @@
 use Rattle.std.proofs.Common.{◌∷◌, map, length}
 use Rattle.notation.specs.Logic.{query_atom}
 use Rattle.search.specs.Checking.{Reached}
-use Rattle.search.specs.Routes.{facts_from}
+use Rattle.search.specs.Candidates.{facts_ahead}
 use Rattle.search.proofs.Extending.{Left}
 use Rattle.search.proofs.rules.+kept_from.Given as goal
 
@@ -11,4 +11,4 @@ decreases-kept_from g l = length l.body.now
 abbrev pub invariant-loop-f : goal.invariant-loop-f
 invariant-loop-f g l =
     let it = l.f-iterator in
-    Left (Reached (query_atom l.a ∷ map query_atom l.rest) l.heads l.b (g.G.Source.facts l.s)) (g.G.Source.facts l.s) l.a (map query_atom l.rest) l.b (facts_from (g.G.Guide.on it.guide.now it.route) (g.G.Source.facts it.guide.now) it.next)
+    Left (Reached (query_atom l.a ∷ map query_atom l.rest) l.heads l.b (g.G.Source.facts l.s)) (g.G.Source.facts l.s) l.a (map query_atom l.rest) l.b (facts_ahead (g.G.Guide.on it.guide.now it.route) (g.G.Source.facts it.guide.now) it.ahead)
