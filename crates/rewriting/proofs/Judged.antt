@@ -314,7 +314,7 @@ rule_in s t n [] i e = absurd (no_entry_of e)
 rule_in s t n (u ∷ us) i e = go (eqb (length u.heads) (length t.parts)) e
   where
     from_read : (v : Read) → pieces s u.body 0 u.heads t.parts ≡ v → judge_read s u.body v ≡ enters n → RightStep s t n × Fits s n
-    from_read (refused k j) h k2 = absurd (no_entry_of k2)
+    from_read (refused k j) h is = absurd (no_entry_of is)
     from_read (read ms) h k =
         let r = tested_in s u.body ms n k in (
           record {
