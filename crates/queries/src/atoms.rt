@@ -13,8 +13,8 @@ const UNUSED: Atom<Term> = Atom {
 // It has no model: a type that is copied needs an inverse of it, and what stands after the atoms has none.
 #[derive(Clone, Copy)]
 pub struct Atoms<const N: usize> {
-    pub(crate) atoms: [Atom<Term>; N],
-    pub(crate) count: usize,
+    pub atoms: [Atom<Term>; N],
+    pub count: usize,
     ghost within: { count ≤ N },
 }
 

@@ -1,5 +1,5 @@
 // What each variable has been given so far, and one atom against one fact under it.
-ghost use Rattle.std.specs.Prelude.{◌≡◌, true, [], ◌∷◌, ◌<◌, ℕ, List, None, Option, replicate, slice_index_or, Decides, MatchBool};
+ghost use Rattle.std.specs.Prelude.{◌≡◌, length, true, [], ◌∷◌, ◌<◌, ℕ, List, None, Option, replicate, slice_index_or, Decides, MatchBool};
 ghost use Rattle.notation.specs.Fits.{terms_fit};
 ghost use Rattle.notation.specs.Logic.{terms_of};
 ghost use Rattle.search.specs.Fitting.{slot_fits, slots_fit};
@@ -38,6 +38,14 @@ impl Binding {
         ensures { result ≡ replicate 32 None }
     {
         Binding { given: [None; 32] }
+    }
+
+    // For how many variables it has a place. A proof learns by this call that there are 32.
+    pub fn places(&self) -> usize
+        ensures all { result ≡ 32 }
+        ensures counted { result ≡ length self.now }
+    {
+        self.given[..].len()
     }
 
     // What the variable has been given.
